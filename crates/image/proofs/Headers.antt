@@ -1,0 +1,110 @@
+-- What the calls on the disk block answer, from the tests that led there.
+use mathlib.Core.Path.{_≡_, refl, sym, ap, _∙_}
+use Prim.Native.Nat.{ℕ, zero, suc, _+_, _-_, _*_, _≤_, _<_}
+use native.Mathlib.Omega.{arith}
+use native.Mathlib.Nat.{mul-le-mul}
+use mathlib.Core.List.{List}
+use mathlib.Core.Bool.{Bool, true, false, cond}
+use lib.ListN.{length, getD, take, drop}
+use lib.Seq.{getD-drop}
+use lib.Dec.{leb, ltb}
+use borrow.Author.Tests.{lt-leb, le-leb, leb-true, leb-false}
+use Rattle.image.specs.Refusals.{Result, refused, good, need, after}
+use Rattle.image.specs.Bytes.{byteAt, numberAt, textAt, stringOf}
+use Rattle.image.specs.Dsk.{extendedText, normalText, kindOf, entries, tableEnd, headerOf, sizeEntry, entryOf}
+use Rattle.image.specs.Calls.{SmallEntry, namedOf, openedOf}
+use Rattle.image.specs.declared.refusal.Refusal.{Refusal}
+use Rattle.image.specs.declared.refusal.Refusal.the-variants.{ShortImage, NotAnImage}
+use Rattle.image.specs.declared.read.Text.the-variants as text
+use Rattle.image.specs.declared.walk.Kind.{Kind}
+use Rattle.image.specs.declared.walk.Kind.the-variants.{Normal, Extended}
+use Rattle.image.specs.declared.walk.Named.{Named}
+use Rattle.image.specs.declared.walk.Named.the-variants as named
+use Rattle.image.specs.declared.walk.Opened.the-variants as opened
+use Rattle.image.specs.declared.walk.Entry.the-variants.{Absent, Size}
+use Rattle.image.proofs.Readers.{told-short, told-same, told-other}
+
+-- ---- the kind
+
+module _ (b : List ℕ) where
+  pub kind-short : (why : Refusal) → stringOf extendedText b 0 ≡ text.Refused why → named.Refused why ≡ namedOf (kindOf b)
+  unfolding kindOf
+  kind-short why e = let f = told-short extendedText b 0 why e in simp (f .0, f .1)
+
+  pub kind-extended : stringOf extendedText b 0 ≡ text.Same → named.Of Extended ≡ namedOf (kindOf b)
+  unfolding kindOf
+  kind-extended e = let f = told-same extendedText b 0 e in simp (f .0, f .1)
+
+  module _ (e : stringOf extendedText b 0 ≡ text.Other) where
+    -- twelve bytes are there, so the eight that the second compare needs are too
+    pub kind-never : (why : Refusal) → stringOf normalText b 0 ≡ text.Refused why → named.Refused why ≡ namedOf (kindOf b)
+    kind-never why g =
+        let f : 12 ≤ length b = leb-true 12 (length b) (told-other extendedText b 0 e .0) in
+        let h : length b < 8 = leb-false 8 (length b) (told-short normalText b 0 why g .0) in
+        absurd (omega arith)
+
+    pub kind-normal : stringOf normalText b 0 ≡ text.Same → named.Of Normal ≡ namedOf (kindOf b)
+    unfolding kindOf
+    kind-normal g = let f = told-other extendedText b 0 e in let h = told-same normalText b 0 g in simp (f .0, f .1, h .1)
+
+    pub kind-none : stringOf normalText b 0 ≡ text.Other → named.Refused NotAnImage ≡ namedOf (kindOf b)
+    unfolding kindOf
+    kind-none g = let f = told-other extendedText b 0 e in let h = told-other normalText b 0 g in simp (f .0, f .1, h .1)
+
+-- ---- the table
+
+-- tracks times sides
+pub entries-most : (x y : ℕ) → x < 256 → y < 256 → x * y ≤ 65025
+entries-most x y h k = let a : x ≤ 255 = omega arith in let b : y ≤ 255 = omega arith in mul-le-mul a b
+
+-- a size byte that is not 0
+size-entry : (n : ℕ) → (n ≡ 0 → ⊥) → Size (256 * n) ≡ sizeEntry n
+size-entry zero h = absurd (h refl)
+size-entry (suc n) h = refl
+
+module _ (kind : Kind) (b : List ℕ) (i : ℕ) where
+  pub entry-normal : (v : ℕ) → kind ≡ Normal → v ≡ numberAt 2 b 0x32 → Size v ≡ entryOf kind b i
+  unfolding entryOf
+  entry-normal v k e = rw k (ap Size e)
+
+  module _ (k : kind ≡ Extended) (t : List ℕ) (et : t ≡ drop 0x34 b) (v : ℕ) (ev : v ≡ getD t i 0) where
+    -- the byte of the table behind its start
+    table-byte : byteAt b (0x34 + i) ≡ v
+    table-byte = sym (getD-drop 0x34 b i 0) ∙ ap (λ (l : List ℕ). getD l i 0) (sym et) ∙ sym ev
+
+    pub entry-absent : v ≡ 0 → Absent ≡ entryOf kind b i
+    unfolding entryOf
+    entry-absent z = rw (k, table-byte, z)
+
+    pub entry-size : (v ≡ 0 → ⊥) → Size (256 * v) ≡ entryOf kind b i
+    unfolding entryOf
+    entry-size z = rw (k, table-byte) (size-entry v z)
+
+-- ---- opening
+
+-- what was named
+named-of : (r : Result Kind) (n : Named) → n ≡ namedOf r → (kind : Kind) → n ≡ named.Of kind → r ≡ good kind
+named-of (refused why) n e kind f = let z : named.Refused why ≡ named.Of kind = sym e ∙ f in cc
+named-of (good k) n e kind f = let z : named.Of k ≡ named.Of kind = sym e ∙ f in cc
+
+named-refused : (r : Result Kind) (n : Named) → n ≡ namedOf r → (why : Refusal) → n ≡ named.Refused why → r ≡ refused why
+named-refused (refused w) n e why f = let z : named.Refused w ≡ named.Refused why = sym e ∙ f in cc
+named-refused (good k) n e why f = let z : named.Of k ≡ named.Refused why = sym e ∙ f in cc
+
+module _ (b : List ℕ) (n : Named) (e : n ≡ namedOf (kindOf b)) where
+  pub open-refused : (why : Refusal) → n ≡ named.Refused why → opened.Refused why ≡ openedOf b (headerOf b)
+  unfolding headerOf
+  open-refused why f = simp (named-refused (kindOf b) n e why f)
+
+  module _ (kind : Kind) (f : n ≡ named.Of kind) (m end : ℕ) (em : m ≡ entries b) (ee : end ≡ tableEnd kind m) where
+    pub open-short : length b < end → opened.Refused ShortImage ≡ openedOf b (headerOf b)
+    unfolding headerOf
+    open-short l =
+        let q : tableEnd kind (entries b) ≡ end = cc in
+        simp (named-of (kindOf b) n e kind f, q, lt-leb _ _ l)
+
+    pub open-ready : end ≤ length b → opened.Ready (record { kind = kind; entry = 0; entries = m; at = 0x100 }) ≡ openedOf b (headerOf b)
+    unfolding headerOf
+    open-ready l =
+        let q : tableEnd kind (entries b) ≡ end = cc in
+        simp (named-of (kindOf b) n e kind f, q, le-leb _ _ l) (cc)

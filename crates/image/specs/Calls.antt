@@ -1,0 +1,83 @@
+-- What the walk's calls answer, in terms of the format.
+use Prim.Native.Nat.{ℕ, _+_, _-_, _<_}
+use mathlib.Core.List.{List, [], _∷_}
+use mathlib.Core.Bool.{Bool, true, false, cond}
+use lib.ListN.{length, drop}
+use lib.Dec.{ltb}
+use Rattle.image.specs.Refusals.{Result, refused, good}
+use Rattle.image.specs.Model.{Track, Disk, trackBytes, sectorCount, byteCount}
+use Rattle.image.specs.Dsk.{Dsk, headerOf, entries, entryOf, trackOf, tracksFrom}
+use Rattle.image.specs.declared.walk.Kind.{Kind}
+use Rattle.image.specs.declared.walk.Entry.{Entry}
+use Rattle.image.specs.declared.walk.Entry.the-variants.{Absent, Size}
+use Rattle.image.specs.declared.walk.Named.{Named}
+use Rattle.image.specs.declared.walk.Named.the-variants as named
+use Rattle.image.specs.declared.walk.Walk.{Walk}
+use Rattle.image.specs.declared.walk.Head.{Head}
+use Rattle.image.specs.declared.walk.Totals.{Totals}
+use Rattle.image.specs.declared.walk.Surveyed.{Surveyed}
+use Rattle.image.specs.declared.walk.Surveyed.the-variants as survey
+use Rattle.image.specs.declared.walk.Opened.{Opened}
+use Rattle.image.specs.declared.walk.Opened.the-variants as opened
+use Rattle.image.specs.declared.walk.Block.{Block}
+use Rattle.image.specs.declared.walk.Block.the-variants as block
+use Rattle.image.specs.declared.walk.Step.{Step}
+use Rattle.image.specs.declared.walk.Step.the-variants as step
+
+-- a track size fits two bytes
+abbrev pub SmallEntry : Entry → Type 0
+SmallEntry Absent = Unit {0}
+SmallEntry (Size n) = n < 65536
+
+-- a survey: the refusal, or the kind and how much there is
+abbrev pub surveyOf : Result Dsk → Surveyed
+surveyOf (refused why) = survey.Refused why
+surveyOf (good d) =
+    survey.Good (record { kind = d .kind; tracks = length (d .disk); sectors = sectorCount (d .disk); bytes = byteCount (d .disk) })
+
+-- a track's fields, how many sectors it has and how many bytes they store
+abbrev pub headOf : Track → Head
+headOf t = record {
+  cylinder = t .cylinder;
+  side = t .side;
+  size = t .size;
+  sectors = length (t .sectors);
+  gap = t .gap;
+  filler = t .filler;
+  stored = trackBytes t;
+}
+
+-- reading a track block
+abbrev pub blockOf : Result Track → Block
+blockOf (refused why) = block.Refused why
+blockOf (good t) = block.Head (headOf t)
+
+-- the kind that an image's first bytes name
+abbrev pub namedOf : Result Kind → Named
+namedOf (refused why) = named.Refused why
+namedOf (good kind) = named.Of kind
+
+-- a walk at an image's first entry
+abbrev pub openedOf : List ℕ → Result Kind → Opened
+openedOf b (refused why) = opened.Refused why
+openedOf b (good kind) = opened.Ready (record { kind = kind; entry = 0; entries = entries b; at = 0x100 })
+
+-- the walk past one entry, with the next track at a place
+abbrev pub past : Walk → ℕ → Walk
+past w at = record { kind = w .kind; entry = w .entry + 1; entries = w .entries; at = at }
+
+-- one step: no entry is left, the track is not there, or its block is read
+abbrev pub readStep : Walk → ℕ → Result Track → Step
+readStep w size (refused why) = step.Refused why
+readStep w size (good t) = step.Track (headOf t) (past w (w .at + size))
+
+abbrev pub entryStep : List ℕ → Walk → Entry → Step
+entryStep b w Absent = step.Absent (past w (w .at))
+entryStep b w (Size n) = readStep w n (trackOf (w .kind) (drop (w .at) b))
+
+unfoldable pub stepOf : List ℕ → Walk → Step
+stepOf b w = cond (ltb (w .entry) (w .entries)) (entryStep b w (entryOf (w .kind) b (w .entry))) step.End
+
+-- the tracks that a walk has still to hand out
+unfoldable pub leftOf : List ℕ → Walk → Result Disk
+leftOf b w = tracksFrom (w .kind) b (w .entry) (w .at) (w .entries - w .entry)
