@@ -1,0 +1,91 @@
+//! Prints what the Rust answers on an image.
+
+use std::io::{self, Cursor, ErrorKind, Write};
+
+use raze::disk::{Disk, Sector, Track};
+
+use crate::Failure;
+use crate::stream::Record;
+
+/// Tracks and sectors are printed one by one only up to these numbers.
+const MOST_TRACKS: usize = 204;
+const MOST_SECTORS: usize = 2_048;
+
+/// Loads the image of the record with the Rust and prints its answer.
+pub fn print(record: &Record, out: &mut impl Write) -> Result<(), Failure> {
+    writeln!(out, "image {}", record.name())?;
+    match Disk::new(Cursor::new(record.image())) {
+        Ok(disk) => print_disk(&disk, out)?,
+        Err(error) => match refusal(&error) {
+            Some(number) => writeln!(out, "refused {number}")?,
+            None => return Err(Failure::Finding(format!("{}: {error}", record.name()))),
+        },
+    }
+    Ok(())
+}
+
+/// The refusal number of an error that the Rust raises, if it has one.
+fn refusal(error: &anyhow::Error) -> Option<u8> {
+    if let Some(error) = error.downcast_ref::<io::Error>() {
+        return (error.kind() == ErrorKind::UnexpectedEof).then_some(3);
+    }
+    match error.to_string().as_str() {
+        "Invalid EXTENDED CPC" => Some(4),
+        "Invalid Track-Info signature" => Some(5),
+        _ => None,
+    }
+}
+
+fn print_disk(disk: &Disk, out: &mut impl Write) -> io::Result<()> {
+    let tracks = disk.tracks();
+    let all = || tracks.iter().flat_map(Track::sectors);
+    let sectors = all().count();
+    let bytes: usize = all().map(|sector| sector.data.len()).sum();
+    writeln!(
+        out,
+        "disk tracks {} sectors {sectors} bytes {bytes}",
+        tracks.len()
+    )?;
+    if tracks.len() > MOST_TRACKS || sectors > MOST_SECTORS {
+        return Ok(());
+    }
+    tracks.iter().try_for_each(|track| print_track(track, out))
+}
+
+fn print_track(track: &Track, out: &mut impl Write) -> io::Result<()> {
+    writeln!(
+        out,
+        "track {} {} {} {} {} {}",
+        track.cylinder(),
+        track.side(),
+        track.sector_size(),
+        track.gap3(),
+        track.filler(),
+        track.sectors().len()
+    )?;
+    let mut sectors = track.sectors().iter();
+    sectors.try_for_each(|sector| print_sector(sector, out))
+}
+
+fn print_sector(sector: &Sector, out: &mut impl Write) -> io::Result<()> {
+    let id = &sector.id;
+    writeln!(
+        out,
+        "sector {} {} {} {} {} {} {} {}",
+        id.c,
+        id.h,
+        id.r,
+        id.n,
+        sector.st1.bits(),
+        sector.st2.bits(),
+        sector.data.len(),
+        check(&sector.data)
+    )
+}
+
+/// The check number of stored bytes, which depends on each byte and its place.
+fn check(bytes: &[u8]) -> u64 {
+    bytes.iter().fold(0, |sum, &byte| {
+        (sum * 16_777_619 + u64::from(byte)) % 4_294_967_291
+    })
+}

@@ -1,0 +1,86 @@
+//! The oracle: the floppy emulator's own Rust, unchanged, asked for its answers
+//! on disk images. `oracle images` writes the list of images as a stream,
+//! `oracle answers` reads such a stream and prints what the Rust answers.
+
+mod answers;
+mod dsk;
+mod images;
+mod noise;
+mod stream;
+
+use std::ffi::OsString;
+use std::fmt;
+use std::io::{self, BufWriter, Read, Write};
+use std::process::ExitCode;
+
+/// Why the oracle stops before its end.
+pub enum Failure {
+    /// It was not called as it should be.
+    Usage,
+    /// The stream on standard input is broken.
+    Stream(String),
+    /// The Rust raised an error that has no refusal number.
+    Finding(String),
+    /// Standard input or output failed.
+    Io(io::Error),
+}
+
+impl Failure {
+    fn status(&self) -> ExitCode {
+        match self {
+            Failure::Usage | Failure::Stream(_) => ExitCode::from(2),
+            Failure::Finding(_) | Failure::Io(_) => ExitCode::FAILURE,
+        }
+    }
+}
+
+impl fmt::Display for Failure {
+    fn fmt(&self, f: &mut fmt::Formatter<'_>) -> fmt::Result {
+        match self {
+            Failure::Usage => write!(f, "usage: oracle images | oracle answers"),
+            Failure::Stream(fault) => write!(f, "the stream is broken: {fault}"),
+            Failure::Finding(error) => write!(f, "an error without a number: {error}"),
+            Failure::Io(error) => write!(f, "{error}"),
+        }
+    }
+}
+
+impl From<io::Error> for Failure {
+    fn from(error: io::Error) -> Failure {
+        Failure::Io(error)
+    }
+}
+
+fn main() -> ExitCode {
+    let arguments: Vec<OsString> = std::env::args_os().skip(1).collect();
+    let done = match arguments.as_slice() {
+        [word] if word == "images" => print_images(),
+        [word] if word == "answers" => print_answers(),
+        _ => Err(Failure::Usage),
+    };
+    match done {
+        Ok(()) => ExitCode::SUCCESS,
+        Err(failure) => {
+            eprintln!("oracle: {failure}");
+            failure.status()
+        }
+    }
+}
+
+fn print_images() -> Result<(), Failure> {
+    let mut out = BufWriter::new(io::stdout().lock());
+    for record in images::list() {
+        stream::write(&record, &mut out)?;
+    }
+    Ok(out.flush()?)
+}
+
+fn print_answers() -> Result<(), Failure> {
+    let mut bytes = Vec::new();
+    io::stdin().read_to_end(&mut bytes)?;
+    let mut out = BufWriter::new(io::stdout().lock());
+    for record in stream::read(&bytes).map_err(Failure::Stream)? {
+        answers::print(&record, &mut out)?;
+    }
+    Ok(out.flush()?)
+}

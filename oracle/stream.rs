@@ -1,0 +1,80 @@
+//! The stream of named images. A record is one byte for the length of the name,
+//! the name, four bytes (the lowest first) for the length of the image, and the
+//! image; records follow one another.
+
+use std::io::{self, Write};
+
+/// No image of the stream is longer.
+const LARGEST: usize = 65_536;
+
+/// A named image.
+pub struct Record {
+    name: String,
+    image: Vec<u8>,
+}
+
+impl Record {
+    /// The record of that name and image, or what is wrong with them.
+    pub fn new(name: String, image: Vec<u8>) -> Result<Record, String> {
+        if !is_name(&name) {
+            return Err(format!("{name:?} is no name of lower-case words"));
+        }
+        if image.len() > LARGEST {
+            return Err(format!("the image {name} is over {LARGEST} bytes"));
+        }
+        Ok(Record { name, image })
+    }
+
+    /// The name of the image.
+    pub fn name(&self) -> &str {
+        &self.name
+    }
+
+    /// The bytes of the image.
+    pub fn image(&self) -> &[u8] {
+        &self.image
+    }
+}
+
+/// Words of small letters and digits, joined by `-`, at most 255 bytes in all.
+fn is_name(name: &str) -> bool {
+    let of_word = |byte: u8| byte.is_ascii_lowercase() || byte.is_ascii_digit();
+    name.len() <= 255
+        && name
+            .split('-')
+            .all(|word| !word.is_empty() && word.bytes().all(of_word))
+}
+
+/// Writes one record to the stream.
+pub fn write(record: &Record, out: &mut impl Write) -> io::Result<()> {
+    out.write_all(&[record.name.len() as u8])?;
+    out.write_all(record.name.as_bytes())?;
+    out.write_all(&(record.image.len() as u32).to_le_bytes())?;
+    out.write_all(&record.image)
+}
+
+/// Reads every record of a stream, or says where and how it is broken.
+pub fn read(mut stream: &[u8]) -> Result<Vec<Record>, String> {
+    let mut records = Vec::new();
+    while !stream.is_empty() {
+        let number = records.len() + 1;
+        let record = read_record(&mut stream).map_err(|fault| format!("record {number}: {fault}"));
+        records.push(record?);
+    }
+    Ok(records)
+}
+
+fn read_record(stream: &mut &[u8]) -> Result<Record, String> {
+    let length = take(stream, 1, "length of the name")?[0];
+    let name = take(stream, length.into(), "name")?;
+    let length = take(stream, 4, "length of the image")?;
+    let length = u32::from_le_bytes([length[0], length[1], length[2], length[3]]);
+    let image = take(stream, length as usize, "image")?;
+    Record::new(String::from_utf8_lossy(name).into_owned(), image.to_vec())
+}
+
+fn take<'a>(stream: &mut &'a [u8], length: usize, what: &str) -> Result<&'a [u8], String> {
+    stream
+        .split_off(..length)
+        .ok_or_else(|| format!("the stream ends inside the {what}"))
+}
