@@ -12,7 +12,7 @@ use borrow.Author.Tests.{lt-leb, le-leb, leb-true, leb-false}
 use Rattle.image.specs.Refusals.{Result, refused, good, need, after}
 use Rattle.image.specs.Bytes.{byteAt, numberAt, textAt, stringOf}
 use Rattle.image.specs.Dsk.{extendedText, normalText, kindOf, entries, tableEnd, headerOf, sizeEntry, entryOf}
-use Rattle.image.specs.Calls.{SmallEntry, namedOf, openedOf}
+use Rattle.image.specs.Calls.{namedOf, openedOf}
 use Rattle.image.specs.declared.refusal.Refusal.{Refusal}
 use Rattle.image.specs.declared.refusal.Refusal.the-variants.{ShortImage, NotAnImage}
 use Rattle.image.specs.declared.read.Text.the-variants as text

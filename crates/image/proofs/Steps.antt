@@ -10,7 +10,7 @@ use borrow.Author.Tests.{lt-ltb, le-ltb, ltb-true, ltb-false}
 use Rattle.image.specs.Refusals.{Result, refused, good, after}
 use Rattle.image.specs.Model.{Track, Disk, total, trackBytes, sectorCount, byteCount}
 use Rattle.image.specs.Dsk.{Dsk, entries, entryOf, headerOf, trackOf, before, placed, tracksFrom, imageOf, dskOf}
-use Rattle.image.specs.Calls.{SmallEntry, headOf, blockOf, openedOf, past, readStep, entryStep, stepOf, leftOf, surveyOf}
+use Rattle.image.specs.Calls.{headOf, blockOf, openedOf, past, readStep, entryStep, stepOf, leftOf, surveyOf}
 use Rattle.image.specs.declared.refusal.Refusal.{Refusal}
 use Rattle.image.specs.declared.walk.Kind.{Kind}
 use Rattle.image.specs.declared.walk.Entry.{Entry}
@@ -70,9 +70,6 @@ module _ (b : List ℕ) (w : Walk) where
           let l : 12 ≤ length t = track-there (w .kind) t m (sym g ∙ ek) in
           let q : length t ≡ length b - w .at = ap length et ∙ length-drop (w .at) b in
           omega arith
-
-pub size-small : (r : Entry) (n : ℕ) → SmallEntry r → r ≡ Size n → n < 65536
-size-small r n s e = rw e at s
 
 -- ---- the tracks that are left
 

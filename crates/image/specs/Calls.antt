@@ -1,5 +1,5 @@
 -- What the walk's calls answer, in terms of the format.
-use Prim.Native.Nat.{ℕ, _+_, _-_, _<_}
+use Prim.Native.Nat.{ℕ, _+_, _-_}
 use mathlib.Core.List.{List, [], _∷_}
 use mathlib.Core.Bool.{Bool, true, false, cond}
 use lib.ListN.{length, drop}
@@ -23,11 +23,6 @@ use Rattle.image.specs.declared.walk.Block.{Block}
 use Rattle.image.specs.declared.walk.Block.the-variants as block
 use Rattle.image.specs.declared.walk.Step.{Step}
 use Rattle.image.specs.declared.walk.Step.the-variants as step
-
--- a track size fits two bytes
-abbrev pub SmallEntry : Entry → Type 0
-SmallEntry Absent = Unit {0}
-SmallEntry (Size n) = n < 65536
 
 -- a survey: the refusal, or the kind and how much there is
 abbrev pub surveyOf : Result Dsk → Surveyed

@@ -11,7 +11,7 @@ ghost use mathlib.Core.Path.{_≡_};
 ghost use Prim.Native.Nat.{_≤_, _<_};
 ghost use lib.ListN.{drop};
 ghost use Rattle.image.specs.Dsk.{kindOf, headerOf, entries, tableEnd, entryOf, storedOf, idAt, rowOf, sectorOf, storedFrom, dataEnd, bodyOf, trackOf, imageOf, dskOf};
-ghost use Rattle.image.specs.Calls.{SmallEntry, namedOf, openedOf, blockOf, stepOf, leftOf, surveyOf};
+ghost use Rattle.image.specs.Calls.{namedOf, openedOf, blockOf, stepOf, leftOf, surveyOf};
 
 pub enum Kind {
     Normal,
@@ -27,7 +27,7 @@ enum Named {
 // A track's place in the table of an image: not there, or so many bytes.
 enum Entry {
     Absent,
-    Size(usize),
+    Size(u16),
 }
 
 // How far a walk has come: the next entry, how many there are, and where the next track stands.
@@ -146,16 +146,16 @@ fn entries_of(image: &[u8]) -> usize
 
 // How many bytes the track of an entry takes.
 fn entry_of(kind: Kind, image: &[u8], entry: usize) -> Entry
-    ensures { λ r. ⌜ (r ≡ entryOf kind (now (image .entry)) entry) × SmallEntry r ⌝ }
+    ensures { λ r. ⌜ r ≡ entryOf kind (now (image .entry)) entry ⌝ }
 {
     match kind {
-        Kind::Normal => Entry::Size(word(image, 0x32)),
+        Kind::Normal => Entry::Size(word(image, 0x32) as u16),
         Kind::Extended => {
             let size = byte(buffer::tail(image, 0x34), entry);
             if size == 0 {
                 return Entry::Absent;
             }
-            Entry::Size(256 * size)
+            Entry::Size((256 * size) as u16)
         }
     }
 }
@@ -298,7 +298,7 @@ impl Walk {
                 entries,
                 at,
             }),
-            Entry::Size(size) => match read_track(kind, buffer::tail(image, at)) {
+            Entry::Size(size) => match read_track(kind, self.block(image)) {
                 Block::Refused(why) => Step::Refused(why),
                 Block::Head(head) => Step::Track(
                     head,
@@ -306,7 +306,7 @@ impl Walk {
                         kind,
                         entry: entry + 1,
                         entries,
-                        at: at + size,
+                        at: at + (size as usize),
                     },
                 ),
             },

@@ -1,4 +1,3 @@
-use native.Mathlib.Omega.{arith}
 use Rattle.image.proofs.Headers.{entry-normal, entry-absent, entry-size}
 use borrow.Author.Needs.{needs}
 use Rattle.image.proofs.walk.entry_of.Statement.{statement}
@@ -9,6 +8,9 @@ enum-told c = search needs
 
 word-requires : tie.Need-word-requires
 word-requires c κs = search needs
+
+cast-t7 : tie.Need-cast-t7
+cast-t7 c = search needs
 
 enum-told-2 : tie.Need-enum-told-2
 enum-told-2 c = search needs
@@ -22,18 +24,21 @@ byte-requires c κs = search needs
 returns : tie.Need-returns
 returns c =
     let d = c .before .before .before in
-    (entry-absent _ _ _ (d .enum-told2 .given .1) _ (c .before .before .tail .ensures) _ (c .before .byte .ensures .0) (c .if1 .taken), tt)
+    entry-absent _ _ _ (d .enum-told2 .given .1) _ (c .before .before .tail .ensures) _ (c .before .byte .ensures .0) (c .if1 .taken)
 
-mul-t9 : tie.Need-mul-t9
-mul-t9 c = search needs
+mul-t10 : tie.Need-mul-t10
+mul-t10 c = search needs
+
+cast-t11 : tie.Need-cast-t11
+cast-t11 c = search needs
 
 returns-2 : tie.Need-returns-2
-returns-2 c = (entry-normal _ _ _ _ (c .before .enum-told .given .1) (c .word .ensures .0), c .word .ensures .1)
+returns-2 c = entry-normal _ _ _ _ (c .before .enum-told .given .1) (c .word .ensures .0)
 
 returns-3 : tie.Need-returns-3
 returns-3 c =
     let d = c .before .before .before in
-    (entry-size _ _ _ (d .enum-told2 .given .1) _ (c .before .before .tail .ensures) _ (c .before .byte .ensures .0) (c .if1 .left), omega arith)
+    entry-size _ _ _ (d .enum-told2 .given .1) _ (c .before .before .tail .ensures) _ (c .before .byte .ensures .0) (c .if1 .left)
 
 pub entry-of-spec : {M : Type 1} → statement M
 entry-of-spec =
@@ -41,10 +46,12 @@ entry-of-spec =
     (tie.spec
     enum-told
     word-requires
+    cast-t7
     enum-told-2
     tail-requires
     byte-requires
     returns
-    mul-t9
+    mul-t10
+    cast-t11
     returns-2
     returns-3)
