@@ -61,27 +61,30 @@ entryOf Extended b i = sizeEntry (byteAt b (0x34 + i))
 abbrev pub trackText : List ℕ
 trackText = 0x54 ∷ 0x72 ∷ 0x61 ∷ 0x63 ∷ 0x6B ∷ 0x2D ∷ 0x49 ∷ 0x6E ∷ 0x66 ∷ 0x6F ∷ 0x0D ∷ 0x0A ∷ []
 
--- where entry k of the sector list stands: from 0x18, eight bytes each
-abbrev pub rowPlace : ℕ → ℕ
-rowPlace k = 0x18 + 8 * k
-
--- how many bytes a sector with this n and these length bytes stores: a normal image ignores the length
-abbrev pub storedOf : Kind → ℕ → ℕ → ℕ
-storedOf Normal n long = sizeOf n
-storedOf Extended n long = long
-
 -- the ID that stands at a place
 abbrev pub idAt : List ℕ → ℕ → SectorId
 idAt b at = record { c = byteAt b at; h = byteAt b (at + 1); r = byteAt b (at + 2); n = byteAt b (at + 3) }
 
--- entry k of the sector list: c, h, r, n, st1, st2, stored length
-unfoldable pub rowOf : Kind → List ℕ → ℕ → Row
-rowOf kind b k = record {
-  id = idAt b (rowPlace k);
-  st1 = record { bits = byteAt b (rowPlace k + 4) };
-  st2 = record { bits = byteAt b (rowPlace k + 5) };
-  stored = storedOf kind (byteAt b (rowPlace k + 3)) (numberAt 2 b (rowPlace k + 6));
+-- the entry that stands at a place: c, h, r, n, st1, st2, stored length
+unfoldable pub rowAt : List ℕ → ℕ → Row
+rowAt b at = record {
+  id = idAt b at;
+  st1 = record { bits = byteAt b (at + 4) };
+  st2 = record { bits = byteAt b (at + 5) };
+  stored = numberAt 2 b (at + 6);
 }
+
+-- a normal image ignores the stored length and takes the size by n
+abbrev pub rowBy : Kind → Row → Row
+rowBy Normal row = record { id = row .id; st1 = row .st1; st2 = row .st2; stored = sizeOf (row .id .n) }
+rowBy Extended row = row
+
+-- entry k of the sector list: from 0x18, eight bytes each
+abbrev pub rowPlace : ℕ → ℕ
+rowPlace k = 0x18 + 8 * k
+
+unfoldable pub rowOf : Kind → List ℕ → ℕ → Row
+rowOf kind b k = rowBy kind (rowAt b (rowPlace k))
 
 -- the sector of an entry whose data begin the bytes given
 abbrev pub sectorOf : Row → List ℕ → Sector

@@ -10,7 +10,7 @@ use crate::refusal::Refusal;
 ghost use mathlib.Core.Path.{_≡_};
 ghost use Prim.Native.Nat.{_≤_, _<_};
 ghost use lib.ListN.{drop};
-ghost use Rattle.image.specs.Dsk.{kindOf, headerOf, entries, tableEnd, entryOf, storedOf, idAt, rowOf, sectorOf, storedFrom, dataEnd, bodyOf, trackOf, imageOf, dskOf};
+ghost use Rattle.image.specs.Dsk.{kindOf, headerOf, entries, tableEnd, entryOf, idAt, rowAt, rowBy, rowOf, sectorOf, storedFrom, dataEnd, bodyOf, trackOf, imageOf, dskOf};
 ghost use Rattle.image.specs.Calls.{namedOf, openedOf, blockOf, stepOf, leftOf, surveyOf};
 
 pub enum Kind {
@@ -160,25 +160,15 @@ fn entry_of(kind: Kind, image: &[u8], entry: usize) -> Entry
     }
 }
 
-// How many bytes a sector stores: by its n in a normal image, by its length bytes in an extended one.
-fn stored_of(kind: Kind, id: SectorId, long: u16) -> u16
-    ensures { λ r. ⌜ r ≡ storedOf kind (id .n) long ⌝ }
-{
-    match kind {
-        Kind::Normal => id.len() as u16,
-        Kind::Extended => long,
-    }
-}
-
 // The ID at a place of a sector list.
-fn id_at(block: &[u8], at: usize) -> SectorId
+fn id_at(list: &[u8], at: usize) -> SectorId
     requires { ⌜ at < 65536 ⌝ }
-    ensures { λ r. ⌜ r ≡ idAt (now (block .entry)) at ⌝ }
+    ensures { λ r. ⌜ r ≡ idAt (now (list .entry)) at ⌝ }
 {
-    let c = byte(block, at);
-    let h = byte(block, at + 1);
-    let r = byte(block, at + 2);
-    let n = byte(block, at + 3);
+    let c = byte(list, at);
+    let h = byte(list, at + 1);
+    let r = byte(list, at + 2);
+    let n = byte(list, at + 3);
     SectorId {
         c: c as u8,
         h: h as u8,
@@ -187,22 +177,48 @@ fn id_at(block: &[u8], at: usize) -> SectorId
     }
 }
 
-// Entry k of a track block's sector list.
-pub fn sector_row(kind: Kind, block: &[u8], k: u8) -> Row
-    ensures { λ r. ⌜ r ≡ rowOf kind (now (block .entry)) k ⌝ }
+// The entry at a place of a sector list.
+pub fn row_at(list: &[u8], at: usize) -> Row
+    requires { ⌜ at < 65536 ⌝ }
+    ensures { λ r. ⌜ r ≡ rowAt (now (list .entry)) at ⌝ }
 {
-    let at = 0x18 + 8 * (k as usize);
-    let id = id_at(block, at);
-    let st1 = byte(block, at + 4);
-    let st2 = byte(block, at + 5);
-    let long = word(block, at + 6);
-    let stored = stored_of(kind, id, long as u16);
+    let id = id_at(list, at);
+    let st1 = byte(list, at + 4);
+    let st2 = byte(list, at + 5);
+    let stored = word(list, at + 6);
     Row {
         id,
         st1: St1 { bits: st1 as u8 },
         st2: St2 { bits: st2 as u8 },
-        stored,
+        stored: stored as u16,
     }
+}
+
+// An entry as its image means it: a normal one stores as much as n says.
+fn row_by(kind: Kind, row: Row) -> Row
+    ensures { λ r. ⌜ r ≡ rowBy kind row ⌝ }
+{
+    match kind {
+        Kind::Extended => row,
+        Kind::Normal => {
+            let id = row.id;
+            let st1 = row.st1;
+            let st2 = row.st2;
+            Row {
+                id,
+                st1,
+                st2,
+                stored: id.len() as u16,
+            }
+        }
+    }
+}
+
+// Entry k of a track block's sector list.
+pub fn sector_row(kind: Kind, block: &[u8], k: u8) -> Row
+    ensures { λ r. ⌜ r ≡ rowOf kind (now (block .entry)) k ⌝ }
+{
+    row_by(kind, row_at(block, 0x18 + 8 * (k as usize)))
 }
 
 // The data of a sector that start at a place of its track block, as a part of the block.
