@@ -241,18 +241,22 @@ module _ (b : List ℕ) (o : Opened) (e : o ≡ openedOf b (headerOf b)) where
       told (refused y) q = cc
       told (good kind) q = cc
 
-  pub survey-opened : (w : Walk) → o ≡ opened.Ready w → (r : Surveyed) → r ≡ surveyOf (imageOf (w .kind) (leftOf b w)) → r ≡ surveyOf (dskOf b)
+  -- an opened image is what its walk has to hand out
+  pub opened-dsk : (w : Walk) → o ≡ opened.Ready w → dskOf b ≡ imageOf (w .kind) (leftOf b w)
   unfolding dskOf leftOf
-  survey-opened w f r g = g ∙ told (headerOf b) (sym e ∙ f)
+  opened-dsk w f = told (headerOf b) (sym e ∙ f)
     where
       told : (h : Result Kind) → openedOf b h ≡ opened.Ready w
-          → surveyOf (imageOf (w .kind) (tracksFrom (w .kind) b (w .entry) (w .at) (w .entries - w .entry)))
-          ≡ surveyOf (after h (λ kind. imageOf kind (tracksFrom kind b 0 0x100 (entries b))))
+          → after h (λ kind. imageOf kind (tracksFrom kind b 0 0x100 (entries b)))
+            ≡ imageOf (w .kind) (tracksFrom (w .kind) b (w .entry) (w .at) (w .entries - w .entry))
       told (refused y) q = cc
       told (good kind) q =
           let p : w ≡ record { kind = kind; entry = 0; entries = entries b; at = 0x100 } = cc in
           let z : entries b - 0 ≡ entries b = omega arith in
           rw p (rw z)
+
+  pub survey-opened : (w : Walk) → o ≡ opened.Ready w → (r : Surveyed) → r ≡ surveyOf (imageOf (w .kind) (leftOf b w)) → r ≡ surveyOf (dskOf b)
+  survey-opened w f r g = g ∙ ap surveyOf (sym (opened-dsk w f))
 
   -- an opened image has at most 65,025 entries
   pub opened-few : (w : Walk) → o ≡ opened.Ready w → w .entries ≡ entries b

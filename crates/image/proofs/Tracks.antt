@@ -65,7 +65,7 @@ sectors-length kind b k place zero = refl
 sectors-length kind b k place (suc left) = ap suc (sectors-length kind b (k + 1) (place + rowOf kind b k .stored) left)
 
 -- a part is whole where it ends inside, or is empty
-whole-part : (b : List ℕ) (place n : ℕ) → (0 < n → place + n ≤ length b) → length (take n (drop place b)) ≡ n
+pub whole-part : (b : List ℕ) (place n : ℕ) → (0 < n → place + n ≤ length b) → length (take n (drop place b)) ≡ n
 whole-part b place zero h = simp length-take (omega arith)
 whole-part b place (suc n) h = let l : place + suc n ≤ length b = h (omega arith) in simp (length-take, length-drop) (omega arith)
 
@@ -145,3 +145,22 @@ module _ (kind : Kind) (b : List ℕ) where
       there : (next : Result Track) (l : Bool) → leb 12 (length b) ≡ l → block.Head h ≡ blockOf (need l ShortImage next) → 12 ≤ length b
       there next true q e = leb-true 12 (length b) q
       there next false q e = let z : _≡_ {A = ℕ} 0 1 = cc in absurd (omega arith)
+
+-- ---- a track that was read as good
+
+need-good : {A : Type 0} (t : Bool) (why : Refusal) (next : Result A) (a : A) → need t why next ≡ good a → (t ≡ true) × (next ≡ good a)
+need-good true why next a e = (refl, e)
+need-good false why next a e = (cc, cc)
+
+-- it is the one that stands in the block, and its data end inside
+pub track-good : (kind : Kind) (b : List ℕ) (t : Track) → trackOf kind b ≡ good t
+    → (trackIn kind b ≡ t) × (0 < storedFrom kind b 0 (byteAt b 0x15) → 0x100 + storedFrom kind b 0 (byteAt b 0x15) ≤ length b)
+unfolding trackOf bodyOf
+track-good kind b t e =
+    let x = need-good (leb 12 (length b)) ShortImage (need (textAt trackText b 0) NotATrack (bodyOf kind b)) t e in
+    let y = need-good (textAt trackText b 0) NotATrack (bodyOf kind b) t (x .1) in
+    let z = need-good (leb (rowPlace (byteAt b 0x15)) (length b)) ShortImage
+            (need (leb (dataEnd (storedFrom kind b 0 (byteAt b 0x15))) (length b)) ShortImage (good (trackIn kind b))) t (y .1) in
+    let w = need-good (leb (dataEnd (storedFrom kind b 0 (byteAt b 0x15))) (length b)) ShortImage (good (trackIn kind b)) t (z .1) in
+    let v : good (trackIn kind b) ≡ good t = w .1 in
+    (cc, data-inside (storedFrom kind b 0 (byteAt b 0x15)) b (leb-true _ _ (w .0)))

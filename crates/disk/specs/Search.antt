@@ -1,0 +1,39 @@
+-- What 01 says of disks: the searches and the geometry ("Modules in port order", 3).
+use Prim.Native.Nat.{ℕ, _%_, max}
+use mathlib.Core.List.{List, [], _∷_}
+use mathlib.Core.Bool.{Bool, cond, not, _&&_}
+use lib.ListN.{length}
+use lib.Dec.{eqb}
+use Rattle.image.specs.declared.id.SectorId.{SectorId}
+use Rattle.image.specs.Model.{Sector, Track, Disk}
+use Rattle.disk.specs.Find.{Found, nothing, found, find, nth}
+
+-- a track by cylinder and side
+abbrev pub isTrack : ℕ → ℕ → Track → Bool
+isTrack side cylinder t = eqb (t .cylinder) cylinder && eqb (t .side) side
+
+-- a sector by all four ID bytes
+abbrev pub isSector : SectorId → Sector → Bool
+isSector id s = eqb (s .id .c) (id .c) && (eqb (s .id .h) (id .h) && (eqb (s .id .r) (id .r) && eqb (s .id .n) (id .n)))
+
+-- the first matching sector of the track that was found
+abbrev pub inTrack : SectorId → Found Track → Found Sector
+inTrack id nothing = nothing
+inTrack id (found i t) = find (isSector id) (t .sectors)
+
+-- the sector at an address: the first matching track's first matching sector
+unfoldable pub sectorAt : Disk → ℕ → ℕ → SectorId → Found Sector
+sectorAt d side cylinder id = inTrack id (find (isTrack side cylinder) d)
+
+-- the sector with an index, counted round the track: `get_sector_by_idx`
+unfoldable pub byIndex : ℕ → Track → Found Sector
+byIndex i t = nth (i % length (t .sectors)) (t .sectors)
+
+-- the greatest cylinder of the tracks that pass a test, 0 where there is none
+unfoldable pub greatest : (Track → Bool) → Disk → ℕ
+greatest p [] = 0
+greatest p (t ∷ ts) = max (cond (p t) (t .cylinder) 0) (greatest p ts)
+
+-- whether a track is of side 0
+abbrev pub isSide0 : Track → Bool
+isSide0 t = eqb (t .side) 0
