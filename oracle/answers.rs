@@ -1,5 +1,7 @@
 //! Prints what the Rust answers on an image.
 
+mod lookups;
+
 use std::io::{self, Cursor, ErrorKind, Write};
 
 use raze::disk::{Disk, Sector, Track};
@@ -7,9 +9,41 @@ use raze::disk::{Disk, Sector, Track};
 use crate::Failure;
 use crate::stream::Record;
 
-/// Tracks and sectors are printed one by one only up to these numbers.
+/// The capacities of document 01. The Rust has none.
 const MOST_TRACKS: usize = 204;
 const MOST_SECTORS: usize = 2_048;
+const MOST_BYTES: usize = 1_048_576;
+
+/// How much a loaded disk holds.
+struct Totals {
+    tracks: usize,
+    sectors: usize,
+    bytes: usize,
+}
+
+impl Totals {
+    fn of(disk: &Disk) -> Totals {
+        let sectors = || disk.tracks().iter().flat_map(Track::sectors);
+        Totals {
+            tracks: disk.tracks().len(),
+            sectors: sectors().count(),
+            bytes: sectors().map(|sector| sector.data.len()).sum(),
+        }
+    }
+
+    /// The refusal number of document 01 for a disk beyond its capacities.
+    fn refusal(&self) -> Option<u8> {
+        if self.tracks > MOST_TRACKS {
+            Some(6)
+        } else if self.sectors > MOST_SECTORS {
+            Some(7)
+        } else if self.bytes > MOST_BYTES {
+            Some(8)
+        } else {
+            None
+        }
+    }
+}
 
 /// Loads the image of the record with the Rust and prints its answer.
 pub fn print(record: &Record, out: &mut impl Write) -> Result<(), Failure> {
@@ -37,19 +71,18 @@ fn refusal(error: &anyhow::Error) -> Option<u8> {
 }
 
 fn print_disk(disk: &Disk, out: &mut impl Write) -> io::Result<()> {
-    let tracks = disk.tracks();
-    let all = || tracks.iter().flat_map(Track::sectors);
-    let sectors = all().count();
-    let bytes: usize = all().map(|sector| sector.data.len()).sum();
+    let totals = Totals::of(disk);
     writeln!(
         out,
-        "disk tracks {} sectors {sectors} bytes {bytes}",
-        tracks.len()
+        "disk tracks {} sectors {} bytes {}",
+        totals.tracks, totals.sectors, totals.bytes
     )?;
-    if tracks.len() > MOST_TRACKS || sectors > MOST_SECTORS {
-        return Ok(());
+    if let Some(number) = totals.refusal() {
+        return writeln!(out, "refused {number}");
     }
-    tracks.iter().try_for_each(|track| print_track(track, out))
+    let mut tracks = disk.tracks().iter();
+    tracks.try_for_each(|track| print_track(track, out))?;
+    lookups::print(disk, out)
 }
 
 fn print_track(track: &Track, out: &mut impl Write) -> io::Result<()> {

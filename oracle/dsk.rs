@@ -128,6 +128,13 @@ impl Plan {
         Plan::new(text, &[tracks, sides, low, high])
     }
 
+    /// An extended image of one side with these tracks, 512 bytes for each.
+    pub fn of(tracks: impl IntoIterator<Item = Track>) -> Plan {
+        let tracks: Vec<Track> = tracks.into_iter().collect();
+        let table = vec![2; tracks.len()];
+        Plan::extended(table.len() as u8, 1, &table).row(0x200, tracks)
+    }
+
     fn new(text: &[u8; 0x22], fields: &[u8]) -> Plan {
         Plan {
             header: [text, b"Kafondiye     ".as_slice(), fields].concat(),
@@ -139,6 +146,14 @@ impl Plan {
     pub fn track(mut self, place: usize, track: Track) -> Plan {
         self.tracks.push((place, track));
         self
+    }
+
+    /// The same plan with these tracks as well, the first of them at the place of
+    /// the disk's first track and each next one `step` bytes further.
+    pub fn row(self, step: usize, tracks: impl IntoIterator<Item = Track>) -> Plan {
+        let places = (FIRST..).step_by(step);
+        let tracks = tracks.into_iter().zip(places);
+        tracks.fold(self, |plan, (track, place)| plan.track(place, track))
     }
 
     /// The image, which ends with the last byte that some track needs.

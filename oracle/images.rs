@@ -4,8 +4,11 @@
 mod cuts;
 mod damaged;
 mod edges;
+mod geometry;
 mod headers;
 mod lengths;
+mod libdsk;
+mod lookups;
 mod many;
 mod normal;
 mod signatures;
@@ -42,9 +45,12 @@ pub fn list() -> Vec<Record> {
     normal::add(&mut list);
     tracks::add(&mut list);
     lengths::add(&mut list);
+    lookups::add(&mut list);
+    geometry::add(&mut list);
     cuts::add(&mut list);
     edges::add(&mut list);
     many::add(&mut list);
     damaged::add(&mut list);
+    libdsk::add(&mut list);
     list.records
 }

@@ -5,7 +5,7 @@
 use std::io::{self, Write};
 
 /// No image of the stream is longer.
-const LARGEST: usize = 65_536;
+const LARGEST: usize = 262_144;
 
 /// A named image.
 pub struct Record {

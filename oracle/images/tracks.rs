@@ -136,14 +136,8 @@ fn add_equal_and_unsorted(list: &mut List) {
         ),
         ("track-order-is-that-of-the-image", [(9, 0), (2, 1), (2, 0)]),
     ] {
-        let plan = Plan::extended(3, 1, &[2, 2, 2]);
-        let plan = places.iter().zip([0x100, 0x300, 0x500]).fold(
-            plan,
-            |plan, (&(cylinder, side), place)| {
-                plan.track(place, Track::new(cylinder, side, row(1, 24)))
-            },
-        );
-        list.add(name, plan.image());
+        let tracks = places.map(|(cylinder, side)| Track::new(cylinder, side, row(1, 24)));
+        list.add(name, Plan::of(tracks).image());
     }
 }
 

@@ -124,7 +124,7 @@ module _ (kind : Kind) (b : List ℕ) where
     track-laid =
         let l : listFrom kind b 0 (byteAt b 0x15) ≡ rowsFor (trackIn kind b .sectors) [] = list-rows 0 0x100 (byteAt b 0x15) (track-good kind b t e .1) in
         let m : listFrom kind b 0 (length (t .sectors)) ≡ rowsFor (t .sectors) [] =
-            ap (listFrom kind b 0) track-count ∙ l ∙ ap (λ (x : Track). rowsFor (x .sectors) []) (track-good kind b t e .0) in
+        ap (listFrom kind b 0) track-count ∙ l ∙ ap (λ (x : Track). rowsFor (x .sectors) []) (track-good kind b t e .0) in
         ap (λ (l : List ℕ). headBytes (headOf t) ++ l) m
 
     pub bytes-laid : take (trackBytes t) (drop 0x100 b) ≡ contents (t .sectors)
@@ -156,11 +156,11 @@ module _ (goal t₀ : List ℕ) (start count : ℕ) (fits : start + 8 * count �
       let in-t : at + length x ≤ length t = omega (arith, r .here, r .same) in
       let at-t : at ≤ length t = omega arith in
       let next : at + 8 ≡ at + length x = omega arith in
-      record
-      { within = omega arith
-      ; here = omega (arith, r .here)
-      ; same = ap length e ∙ over-length t at x in-t ∙ r .same
-      ; pending = ap (λ (y : List ℕ). over y (at + 8) rest′) e ∙ lay-on t at x rest′ goal (at + 8) (ap (over t at) (sym q) ∙ r .pending) next at-t
+      record {
+        within = omega arith;
+        here = omega (arith, r .here);
+        same = ap length e ∙ over-length t at x in-t ∙ r .same;
+        pending = ap (λ (y : List ℕ). over y (at + 8) rest′) e ∙ lay-on t at x rest′ goal (at + 8) (ap (over t at) (sym q) ∙ r .pending) next at-t;
       }
 
 -- what is left of a block's list: at the start, after a row, at the end
@@ -189,13 +189,13 @@ module _ (c h n f : ℕ) where
   -- the rows of formatted sectors, the first of them apart
   pub blanks-step : (r left : ℕ) → 0 < left
       → rowsFor (blanksFrom c h n f r left) []
-        ≡ rowBytes (record { id = record { c = c; h = h; r = r; n = n }; st1 = record { bits = 0 }; st2 = record { bits = 0 }; stored = sizeOf n })
-          ++ rowsFor (blanksFrom c h n f (r + 1) (left - 1)) []
+      ≡ rowBytes (record { id = record { c = c; h = h; r = r; n = n }; st1 = record { bits = 0 }; st2 = record { bits = 0 }; stored = sizeOf n })
+      ++ rowsFor (blanksFrom c h n f (r + 1) (left - 1)) []
   unfolding blanksFrom rowsFor
   blanks-step r =
       down (λ left l. rowsFor (blanksFrom c h n f r left) []
-        ≡ rowBytes (record { id = record { c = c; h = h; r = r; n = n }; st1 = record { bits = 0 }; st2 = record { bits = 0 }; stored = sizeOf n })
-          ++ rowsFor (blanksFrom c h n f (r + 1) l) [])
+      ≡ rowBytes (record { id = record { c = c; h = h; r = r; n = n }; st1 = record { bits = 0 }; st2 = record { bits = 0 }; stored = sizeOf n })
+      ++ rowsFor (blanksFrom c h n f (r + 1) l) [])
       (λ left. let e : length (replicate (sizeOf n) f) ≡ sizeOf n = length-replicate (sizeOf n) f in cc)
 
   -- what is left of them
@@ -286,15 +286,15 @@ pub record Freshing (t₀ b₀ t b : List ℕ) (c at place : ℕ) : Type 0 where
 
 module _ (t₀ b₀ : List ℕ) (ft : 3121 ≤ length t₀) (fb : 184320 ≤ length b₀) where
   pub fresh-start : Freshing t₀ b₀ t₀ b₀ 0 1 0
-  fresh-start = record
-    { within = omega arith
-    ; row = refl
-    ; byte = refl
-    ; same-table = refl
-    ; same-bytes = refl
-    ; rows = refl
-    ; bytes = refl
-    }
+  fresh-start = record {
+    within = omega arith;
+    row = refl;
+    byte = refl;
+    same-table = refl;
+    same-bytes = refl;
+    rows = refl;
+    bytes = refl;
+  }
 
   module _ (t b : List ℕ) (c at place : ℕ) (r : Freshing t₀ b₀ t b c at place) where
     pub fresh-again : c < 40 → (t′ b′ : List ℕ) → t′ ≡ over t at (trackFor (formatted c 0 2 9 0x2F 0xE5))
@@ -308,26 +308,27 @@ module _ (t₀ b₀ : List ℕ) (ft : 3121 ≤ length t₀) (fb : 184320 ≤ len
         let s : freshFrom c (40 - c) ≡ tr ∷ rest = rw (← q) (fresh-step c (40 - c) p) in
         let lt : length (trackFor tr) ≡ 78 = omega (arith, track-length tr, fresh-nine c) in
         let lb : length (contents (tr .sectors)) ≡ 4608 = omega (arith, contents-length (tr .sectors), fresh-whole c) in
-        record
-        { within = omega arith
-        ; row = omega (arith, r .row)
-        ; byte = omega (arith, r .byte)
-        ; same-table = ap length et ∙ over-length t at (trackFor tr) (omega (arith, r .row, r .same-table)) ∙ r .same-table
-        ; same-bytes = ap length eb ∙ over-length b place (contents (tr .sectors)) (omega (arith, r .byte, r .same-bytes)) ∙ r .same-bytes
-        ; rows =
-            ap (λ (y : List ℕ). over y (at + 78) (tracksFor rest [])) et
-            ∙ lay-on t at (trackFor tr) (tracksFor rest []) _ (at + 78)
-              (ap (over t at) (sym (tracks-append tr rest) ∙ ap (λ (d : Disk). tracksFor d []) (sym s)) ∙ r .rows) (omega arith) (omega (arith, r .row, r .same-table))
-        ; bytes =
-            ap (λ (y : List ℕ). over y (place + 4608) (dataOf rest)) eb
-            ∙ lay-on b place (contents (tr .sectors)) (dataOf rest) _ (place + 4608)
-              (ap (over b place) (ap dataOf (sym s)) ∙ r .bytes) (omega arith) (omega (arith, r .byte, r .same-bytes))
+        record {
+          within = omega arith;
+          row = omega (arith, r .row);
+          byte = omega (arith, r .byte);
+          same-table = ap length et ∙ over-length t at (trackFor tr) (omega (arith, r .row, r .same-table)) ∙ r .same-table;
+          same-bytes = ap length eb ∙ over-length b place (contents (tr .sectors)) (omega (arith, r .byte, r .same-bytes)) ∙ r .same-bytes;
+          rows =
+              ap (λ (y : List ℕ). over y (at + 78) (tracksFor rest [])) et
+              ∙ lay-on t at (trackFor tr) (tracksFor rest []) _ (at + 78)
+              (ap (over t at) (sym (tracks-append tr rest) ∙ ap (λ (d : Disk). tracksFor d []) (sym s)) ∙ r .rows) (omega arith) (omega (arith, r .row, r .same-table));
+          bytes =
+              ap (λ (y : List ℕ). over y (place + 4608) (dataOf rest)) eb
+              ∙ lay-on b place (contents (tr .sectors)) (dataOf rest) _ (place + 4608)
+              (ap (over b place) (ap dataOf (sym s)) ∙ r .bytes) (omega arith) (omega (arith, r .byte, r .same-bytes));
         }
 
     pub fresh-done : 40 ≤ c → (t ≡ over t₀ 1 (tracksFor (freshFrom 0 40) [])) × (b ≡ over b₀ 0 (dataOf (freshFrom 0 40)))
     unfolding freshFrom tracksFor dataOf
     fresh-done h =
         let e : 40 - c ≡ 0 = omega arith in
-        let n : freshFrom c (40 - c) ≡ [] = rw e in
-        ( lay-none t at (tracksFor (freshFrom c (40 - c)) []) _ (r .rows) (ap (λ (d : Disk). tracksFor d []) n)
-        , lay-none b place (dataOf (freshFrom c (40 - c))) _ (r .bytes) (ap dataOf n) )
+        let n : freshFrom c (40 - c) ≡ [] = rw e in (
+          lay-none t at (tracksFor (freshFrom c (40 - c)) []) _ (r .rows) (ap (λ (d : Disk). tracksFor d []) n),
+          lay-none b place (dataOf (freshFrom c (40 - c))) _ (r .bytes) (ap dataOf n),
+        )

@@ -114,24 +114,25 @@ module _ (img t₀ b₀ : List ℕ) (start : Walk) (kind : Kind) where
     pub laying-end : Says img w step.End → (t ≡ over t₀ 1 (tracksFor (toLay img start) [])) × (b ≡ over b₀ 0 (dataOf (toLay img start)))
     unfolding tracksFor dataOf
     laying-end e =
-        let n : toLay img w ≡ [] = ap theDisk e in
-        ( lay-none t at (tracksFor (toLay img w) []) _ (l .rows) (ap (λ (d : Disk). tracksFor d []) n)
-        , lay-none b place (dataOf (toLay img w)) _ (l .bytes) (ap dataOf n) )
+        let n : toLay img w ≡ [] = ap theDisk e in (
+          lay-none t at (tracksFor (toLay img w) []) _ (l .rows) (ap (λ (d : Disk). tracksFor d []) n),
+          lay-none b place (dataOf (toLay img w)) _ (l .bytes) (ap dataOf n),
+        )
 
     pub laying-absent : (r : Walk) → Says img w (step.Absent r) → Laying img t₀ b₀ start kind t b r at place
     laying-absent r e =
         let q : toLay img r ≡ toLay img w = ap theDisk (sym (e .1)) in
-        record
-        { same-kind = e .0 .kind ∙ l .same-kind
-        ; same-table = l .same-table
-        ; same-bytes = l .same-bytes
-        ; layable = record
-            { whole = sym (e .1) ∙ l .layable .whole ∙ ap good (sym q)
-            ; rows = rw q (l .layable .rows)
-            ; bytes = rw q (l .layable .bytes)
-            }
-        ; rows = rw q (l .rows)
-        ; bytes = rw q (l .bytes)
+        record {
+          same-kind = e .0 .kind ∙ l .same-kind;
+          same-table = l .same-table;
+          same-bytes = l .same-bytes;
+          layable = record {
+            whole = sym (e .1) ∙ l .layable .whole ∙ ap good (sym q);
+            rows = rw q (l .layable .rows);
+            bytes = rw q (l .layable .bytes);
+          };
+          rows = rw q (l .rows);
+          bytes = rw q (l .bytes);
         }
 
     module _ (h : Head) (r : Walk) (e : Says img w (step.Track h r)) where
@@ -164,27 +165,27 @@ module _ (img t₀ b₀ : List ℕ) (start : Walk) (kind : Kind) where
           let tr : Track = e .track in
           let read : trackOf kind p ≡ good tr = (λ i. trackOf (sym (l .same-kind) i) (ep i)) ∙ e .read in
           let x : headBytes h ++ listFrom kind p 0 (h .sectors) ≡ trackFor tr =
-              (λ i. headBytes (e .head i) ++ listFrom kind p 0 (sectors-are i)) ∙ track-laid kind p tr read in
+          (λ i. headBytes (e .head i) ++ listFrom kind p 0 (sectors-are i)) ∙ track-laid kind p tr read in
           let y : take (h .stored) (drop 0x100 p) ≡ contents (tr .sectors) =
-              ap (λ (n : ℕ). take n (drop 0x100 p)) stored-is ∙ bytes-laid kind p tr read in
+          ap (λ (n : ℕ). take n (drop 0x100 p)) stored-is ∙ bytes-laid kind p tr read in
           let et′ : t′ ≡ over t at (trackFor tr) = et ∙ ap (over t at) x in
           let eb′ : b′ ≡ over b place (contents (tr .sectors)) = eb ∙ ap (over b place) y in
           let lt : length (trackFor tr) ≡ 6 + 8 * h .sectors = omega (arith, track-length tr, sectors-are) in
           let lb : length (contents (tr .sectors)) ≡ h .stored = contents-length (tr .sectors) ∙ sym stored-is in
-          record
-          { same-kind = e .moved .kind ∙ l .same-kind
-          ; same-table = ap length et′ ∙ over-length t at (trackFor tr) (omega (arith, l .same-table, laying-rows)) ∙ l .same-table
-          ; same-bytes = ap length eb′ ∙ over-length b place (contents (tr .sectors)) (omega (arith, l .same-bytes, laying-bytes)) ∙ l .same-bytes
-          ; layable = record { whole = rest .0; rows = omega (arith, laying-rows); bytes = omega (arith, laying-bytes) }
-          ; rows =
-              ap (λ (z : List ℕ). over z (at + (6 + 8 * h .sectors)) (tracksFor (toLay img r) [])) et′
-              ∙ lay-on t at (trackFor tr) (tracksFor (toLay img r) []) _ (at + (6 + 8 * h .sectors))
+          record {
+            same-kind = e .moved .kind ∙ l .same-kind;
+            same-table = ap length et′ ∙ over-length t at (trackFor tr) (omega (arith, l .same-table, laying-rows)) ∙ l .same-table;
+            same-bytes = ap length eb′ ∙ over-length b place (contents (tr .sectors)) (omega (arith, l .same-bytes, laying-bytes)) ∙ l .same-bytes;
+            layable = record { whole = rest .0; rows = omega (arith, laying-rows); bytes = omega (arith, laying-bytes) };
+            rows =
+                ap (λ (z : List ℕ). over z (at + (6 + 8 * h .sectors)) (tracksFor (toLay img r) [])) et′
+                ∙ lay-on t at (trackFor tr) (tracksFor (toLay img r) []) _ (at + (6 + 8 * h .sectors))
                 (ap (over t at) (sym (tracks-append tr (toLay img r)) ∙ ap (λ (d : Disk). tracksFor d []) (sym (rest .1))) ∙ l .rows)
-                (omega arith) (omega (arith, l .same-table, laying-rows))
-          ; bytes =
-              ap (λ (z : List ℕ). over z (place + h .stored) (dataOf (toLay img r))) eb′
-              ∙ lay-on b place (contents (tr .sectors)) (dataOf (toLay img r)) _ (place + h .stored)
-                (ap (over b place) (ap dataOf (sym (rest .1))) ∙ l .bytes) (omega arith) (omega (arith, l .same-bytes, laying-bytes))
+                (omega arith) (omega (arith, l .same-table, laying-rows));
+            bytes =
+                ap (λ (z : List ℕ). over z (place + h .stored) (dataOf (toLay img r))) eb′
+                ∙ lay-on b place (contents (tr .sectors)) (dataOf (toLay img r)) _ (place + h .stored)
+                (ap (over b place) (ap dataOf (sym (rest .1))) ∙ l .bytes) (omega arith) (omega (arith, l .same-bytes, laying-bytes));
           }
 
 -- ---- what a load leaves
@@ -267,10 +268,10 @@ module _ (img t b : List ℕ) (n : Totals) (s : Surveyed img n) (h : length t �
       pub load-layable : (t′ : List ℕ) → length t′ ≡ length t → Layable img w 1 0 (length t′) (length b)
       load-layable t′ l =
           let d : toLay img w ≡ s .dsk .disk = ap theDisk whole in
-          record
-          { whole = whole ∙ ap good (sym d)
-          ; rows = rw d (omega (arith, inside .1, s .tracks, s .sectors))
-          ; bytes = rw d (omega (arith, inside .1, s .bytes, room-inside b))
+          record {
+            whole = whole ∙ ap good (sym d);
+            rows = rw d (omega (arith, inside .1, s .tracks, s .sectors));
+            bytes = rw d (omega (arith, inside .1, s .bytes, room-inside b));
           }
 
       pub load-good : (t′ b′ : List ℕ) → t′ ≡ over (set t 0 (n .tracks)) 1 (tracksFor (toLay img w) []) → b′ ≡ over b 0 (dataOf (toLay img w))
@@ -279,8 +280,8 @@ module _ (img t b : List ℕ) (n : Totals) (s : Surveyed img n) (h : length t �
       load-good t′ b′ et eb =
           let d : toLay img w ≡ s .dsk .disk = ap theDisk whole in
           let x : t′ ≡ over t 0 (tableOf (s .dsk .disk)) =
-              et ∙ (λ i. over (set t 0 (s .tracks i)) 1 (tracksFor (d i) []))
-              ∙ count-first t (length (s .dsk .disk)) (tracksFor (s .dsk .disk) []) (omega arith) in
+          et ∙ (λ i. over (set t 0 (s .tracks i)) 1 (tracksFor (d i) []))
+          ∙ count-first t (length (s .dsk .disk)) (tracksFor (s .dsk .disk) []) (omega arith) in
           let y : b′ ≡ over b 0 (dataOf (s .dsk .disk)) = eb ∙ ap (λ (z : Disk). over b 0 (dataOf z)) d in
           (λ i. outcome done.Good (x i) (y i)) ∙ sym (load-is ∙ ap (laid t b) (inside .0))
 

@@ -79,14 +79,14 @@ abbrev pub trackSum : List ℕ → ℕ → ℕ
 trackSum t at = sumAt t (at + 6) (countAt t at)
 
 abbrev pub trackAt : List ℕ → List ℕ → ℕ → ℕ → Track
-trackAt t b at place = record
-  { cylinder = byteAt t at
-  ; side = byteAt t (at + 1)
-  ; size = byteAt t (at + 2)
-  ; gap = byteAt t (at + 3)
-  ; filler = byteAt t (at + 4)
-  ; sectors = sectorsAt t b (at + 6) place (countAt t at)
-  }
+trackAt t b at place = record {
+  cylinder = byteAt t at;
+  side = byteAt t (at + 1);
+  size = byteAt t (at + 2);
+  gap = byteAt t (at + 3);
+  filler = byteAt t (at + 4);
+  sectors = sectorsAt t b (at + 6) place (countAt t at);
+}
 
 -- so many tracks
 unfoldable pub tracksAt : List ℕ → List ℕ → ℕ → ℕ → ℕ → List Track

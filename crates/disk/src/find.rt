@@ -4,10 +4,8 @@ use crate::survey::Totals;
 use crate::survey::room_of;
 use crate::survey::rows_len;
 use crate::survey::survey;
-
 use image::Refusal;
 use image::SectorId;
-
 ghost use mathlib.Core.Path.{_≡_};
 ghost use Prim.Native.Nat.{_+_, _*_, _<_, _≤_, max};
 ghost use Rattle.image.specs.Bytes.{byteAt};
@@ -180,7 +178,11 @@ pub fn find_sector(table: &[u8], side: u8, cylinder: u8, id: SectorId) -> Spot
 {
     match get_track(table, side, cylinder) {
         Spot::Nothing => Spot::Nothing,
-        Spot::At { index: _, at, place } => {
+        Spot::At {
+            index: _,
+            at,
+            place,
+        } => {
             let count = image::byte(table, at + 5);
             get_sector(table, at + 6, place, count, id)
         }

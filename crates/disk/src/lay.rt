@@ -2,7 +2,6 @@
 use crate::answer::Done;
 use crate::survey::TABLE;
 use crate::survey::room_of;
-
 use image::Head;
 use image::Kind;
 use image::Opened;
@@ -15,7 +14,6 @@ use image::Step;
 use image::Surveyed;
 use image::Totals;
 use image::Walk;
-
 ghost use mathlib.Core.Path.{_≡_};
 ghost use Prim.Native.Nat.{_+_, _*_, _<_, _≤_};
 ghost use mathlib.Core.List.{[], _++_};
@@ -84,7 +82,15 @@ fn put_rows(table: &mut [u8], start: usize, kind: Kind, block: &[u8], count: u8)
 }
 
 // Lays the track that a block holds, whose head was read: its rows, and its data in one piece.
-fn lay_track(table: &mut [u8], at: usize, bytes: &mut [u8], place: usize, kind: Kind, block: &[u8], head: Head)
+fn lay_track(
+    table: &mut [u8],
+    at: usize,
+    bytes: &mut [u8],
+    place: usize,
+    kind: Kind,
+    block: &[u8],
+    head: Head,
+)
     requires { ⌜ (at + 6 + 8 * head .sectors ≤ length (now table)) × (place + head .stored ≤ length (now bytes)) ⌝ }
     ensures { λ _. ⌜ (now (table .exit) ≡ over (now (table .entry)) at (headBytes head ++ listFrom kind (now (block .entry)) 0 (head .sectors))) × (now (bytes .exit) ≡ over (now (bytes .entry)) place (take (head .stored) (drop 0x100 (now (block .entry))))) ⌝ }
 {

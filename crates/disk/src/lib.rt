@@ -7,27 +7,35 @@ mod survey;
 pub use answer::Done;
 pub use answer::Geometry;
 pub use answer::Has;
+use find::Place;
 pub use find::geometry;
+use find::locate;
+use image::SectorId;
 pub use lay::new;
 pub use lay::new_formatted;
-
-use find::Place;
-use find::locate;
-
-use image::SectorId;
-
 ghost use mathlib.Core.Path.{_≡_};
 ghost use Rattle.disk.specs.Store.{diskOf};
 ghost use Rattle.disk.specs.Calls.{lookupOf, hasOf};
 
 // The bytes of the sector at an address, as a part of `bytes`; an empty part where there is none or the store breaks the layout.
-pub fn lookup<'t, 'b>(table: &'t [u8], bytes: &'b [u8], side: u8, cylinder: u8, id: SectorId) -> &'b [u8]
+pub fn lookup<'t, 'b>(
+    table: &'t [u8],
+    bytes: &'b [u8],
+    side: u8,
+    cylinder: u8,
+    id: SectorId,
+) -> &'b [u8]
     ensures { λ r. ⌜ now r ≡ lookupOf (diskOf (now (table .entry)) (now (bytes .entry))) side cylinder id ⌝ }
 {
     match locate(table, bytes, side, cylinder, id) {
         Place::Refused(_) => &bytes[0..0],
         Place::Nothing => &bytes[0..0],
-        Place::Part { index: _, row: _, from, to } => &bytes[from..to],
+        Place::Part {
+            index: _,
+            row: _,
+            from,
+            to,
+        } => &bytes[from..to],
     }
 }
 
@@ -38,6 +46,11 @@ pub fn has_sector(table: &[u8], bytes: &[u8], side: u8, cylinder: u8, id: Sector
     match locate(table, bytes, side, cylinder, id) {
         Place::Refused(why) => Has::Refused(why),
         Place::Nothing => Has::No,
-        Place::Part { index: _, row: _, from: _, to: _ } => Has::Yes,
+        Place::Part {
+            index: _,
+            row: _,
+            from: _,
+            to: _,
+        } => Has::Yes,
     }
 }

@@ -25,7 +25,11 @@ pub enum Totals {
 pub fn room_of(bytes: &[u8]) -> usize
     ensures { λ r. ⌜ (r ≡ roomOf (now (bytes .entry))) × (r ≤ 1048576) ⌝ }
 {
-    if bytes.len() < ROOM { bytes.len() } else { ROOM }
+    if bytes.len() < ROOM {
+        bytes.len()
+    } else {
+        ROOM
+    }
 }
 
 // The sum of the stored lengths of `count` rows.

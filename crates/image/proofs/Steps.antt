@@ -248,7 +248,7 @@ module _ (b : List ℕ) (o : Opened) (e : o ≡ openedOf b (headerOf b)) where
     where
       told : (h : Result Kind) → openedOf b h ≡ opened.Ready w
           → after h (λ kind. imageOf kind (tracksFrom kind b 0 0x100 (entries b)))
-            ≡ imageOf (w .kind) (tracksFrom (w .kind) b (w .entry) (w .at) (w .entries - w .entry))
+          ≡ imageOf (w .kind) (tracksFrom (w .kind) b (w .entry) (w .at) (w .entries - w .entry))
       told (refused y) q = cc
       told (good kind) q =
           let p : w ≡ record { kind = kind; entry = 0; entries = entries b; at = 0x100 } = cc in

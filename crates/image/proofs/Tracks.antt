@@ -160,7 +160,7 @@ track-good kind b t e =
     let x = need-good (leb 12 (length b)) ShortImage (need (textAt trackText b 0) NotATrack (bodyOf kind b)) t e in
     let y = need-good (textAt trackText b 0) NotATrack (bodyOf kind b) t (x .1) in
     let z = need-good (leb (rowPlace (byteAt b 0x15)) (length b)) ShortImage
-            (need (leb (dataEnd (storedFrom kind b 0 (byteAt b 0x15))) (length b)) ShortImage (good (trackIn kind b))) t (y .1) in
+    (need (leb (dataEnd (storedFrom kind b 0 (byteAt b 0x15))) (length b)) ShortImage (good (trackIn kind b))) t (y .1) in
     let w = need-good (leb (dataEnd (storedFrom kind b 0 (byteAt b 0x15))) (length b)) ShortImage (good (trackIn kind b)) t (z .1) in
     let v : good (trackIn kind b) ≡ good t = w .1 in
     (cc, data-inside (storedFrom kind b 0 (byteAt b 0x15)) b (leb-true _ _ (w .0)))

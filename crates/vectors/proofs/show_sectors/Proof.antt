@@ -4,25 +4,31 @@ use Rattle.vectors.proofs.show_sectors.Statement.{statement}
 use Rattle.vectors.proofs.show_sectors.Tie as tie
 
 abbrev Inv-loop : tie.InvT-loop
-Inv-loop kind block count k₀ place₀ k place = place ≤ 256 + 65535 * k
+Inv-loop table bytes start count first place₀ k₀ place k = (k ≤ count) × (place ≤ first + 65535 * k)
 
 abbrev μ-loop : tie.MeasureT-loop
-μ-loop kind block count k₀ place₀ k place = count - k
+μ-loop table bytes start count first place₀ k₀ place k = count - k
 
 loop-holds : tie.Need-loop-holds Inv-loop μ-loop
 loop-holds c = search needs
 
-sector-row-requires : tie.Need-sector-row-requires Inv-loop μ-loop
-sector-row-requires c κs = search needs
+mul-row-at : tie.Need-mul-row-at Inv-loop μ-loop
+mul-row-at c = search needs
 
-content-requires : tie.Need-content-requires Inv-loop μ-loop
-content-requires c κs = search needs
+add-row-at : tie.Need-add-row-at Inv-loop μ-loop
+add-row-at c = search needs
+
+row-at-requires : tie.Need-row-at-requires Inv-loop μ-loop
+row-at-requires c κs = search needs
+
+cast-stored : tie.Need-cast-stored Inv-loop μ-loop
+cast-stored c = search needs
+
+part-requires : tie.Need-part-requires Inv-loop μ-loop
+part-requires c κs = search needs
 
 show-sector-requires : tie.Need-show-sector-requires Inv-loop μ-loop
 show-sector-requires c κs = search needs
-
-cast-place : tie.Need-cast-place Inv-loop μ-loop
-cast-place c = search needs
 
 add-place : tie.Need-add-place Inv-loop μ-loop
 add-place c = search needs
@@ -46,10 +52,12 @@ show-sectors-spec =
     Inv-loop
     μ-loop
     loop-holds
-    sector-row-requires
-    content-requires
+    mul-row-at
+    add-row-at
+    row-at-requires
+    cast-stored
+    part-requires
     show-sector-requires
-    cast-place
     add-place
     add-k
     loop-less

@@ -36,9 +36,10 @@ returns : tie.Need-returns
 returns c =
     let f = c .before .before in
     let r = f .before .before .before .before .before .before in
-    let h = r .before .before .before .before in
-    ( two-parts _ _ _ _ _ _ _ (h .put-head .ensures) (r .put-rows .ensures) refl (omega arith)
-    , f .copy-in .ensures ∙ ap (over _ _) (f .before .part .ensures) )
+    let h = r .before .before .before .before in (
+      two-parts _ _ _ _ _ _ _ (h .put-head .ensures) (r .put-rows .ensures) refl (omega arith),
+      f .copy-in .ensures ∙ ap (over _ _) (f .before .part .ensures),
+    )
 
 pub lay-track-spec : {M : Type 1} → statement M
 lay-track-spec =

@@ -1,21 +1,12 @@
 use borrow.Author.Needs.{needs}
-use Rattle.vectors.proofs.main.Statement.{statement}
-use Rattle.vectors.proofs.main.Tie as tie
+use Rattle.vectors.proofs.run.Statement.{statement}
+use Rattle.vectors.proofs.run.Tie as tie
 
 abbrev Inv-loop : tie.InvT-loop
-Inv-loop name₀ bytes₀ left₀ name bytes left = Unit
+Inv-loop name₀ image₀ table₀ bytes₀ left₀ name image table bytes left = Unit
 
 abbrev μ-loop : tie.MeasureT-loop
-μ-loop name₀ bytes₀ left₀ name bytes left = left
-
-large-buffer-requires : tie.Need-large-buffer-requires Inv-loop μ-loop
-large-buffer-requires c κs = search needs
-
-slice-aggregate-name : tie.Need-slice-aggregate-name Inv-loop μ-loop
-slice-aggregate-name c = search needs
-
-slice-aggregate-bytes : tie.Need-slice-aggregate-bytes Inv-loop μ-loop
-slice-aggregate-bytes c = search needs
+μ-loop name₀ image₀ table₀ bytes₀ left₀ name image table bytes left = left
 
 loop-holds : tie.Need-loop-holds Inv-loop μ-loop
 loop-holds c = search needs
@@ -38,15 +29,12 @@ loop-again c = search needs
 returns-2 : tie.Need-returns-2 Inv-loop μ-loop
 returns-2 c = search needs
 
-pub main-spec : {M : Type 1} → statement M
-main-spec =
+pub run-spec : {M : Type 1} → statement M
+run-spec =
     tie.close
     (tie.spec
     Inv-loop
     μ-loop
-    large-buffer-requires
-    slice-aggregate-name
-    slice-aggregate-bytes
     loop-holds
     replay-requires
     returns
