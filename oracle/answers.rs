@@ -58,6 +58,12 @@ pub fn print(record: &Record, out: &mut impl Write) -> Result<(), Failure> {
     Ok(())
 }
 
+/// Prints the disk that the Rust formats fresh.
+pub fn print_fresh(out: &mut impl Write) -> io::Result<()> {
+    writeln!(out, "fresh")?;
+    print_tracks(&Disk::new_formatted(), out)
+}
+
 /// The refusal number of an error that the Rust raises, if it has one.
 fn refusal(error: &anyhow::Error) -> Option<u8> {
     if let Some(error) = error.downcast_ref::<io::Error>() {
@@ -80,6 +86,10 @@ fn print_disk(disk: &Disk, out: &mut impl Write) -> io::Result<()> {
     if let Some(number) = totals.refusal() {
         return writeln!(out, "refused {number}");
     }
+    print_tracks(disk, out)
+}
+
+fn print_tracks(disk: &Disk, out: &mut impl Write) -> io::Result<()> {
     let mut tracks = disk.tracks().iter();
     tracks.try_for_each(|track| print_track(track, out))?;
     lookups::print(disk, out)

@@ -79,6 +79,7 @@ fn print_answers() -> Result<(), Failure> {
     let mut bytes = Vec::new();
     io::stdin().read_to_end(&mut bytes)?;
     let mut out = BufWriter::new(io::stdout().lock());
+    answers::print_fresh(&mut out)?;
     for record in stream::read(&bytes).map_err(Failure::Stream)? {
         answers::print(&record, &mut out)?;
     }

@@ -237,6 +237,14 @@ fn show(image: &[u8], table: &mut [u8], bytes: &mut [u8]) {
     }
 }
 
+fn show_fresh(table: &mut [u8], bytes: &mut [u8]) {
+    put(b"fresh\n");
+    match disk::new_formatted(table, bytes) {
+        disk::Done::Refused(why) => refused(why),
+        disk::Done::Good => show_store(table, bytes),
+    }
+}
+
 fn broken() -> bool {
     io::write_all(STDERR_FILENO, b"vectors: the list ends inside a record\n");
     false
@@ -290,6 +298,7 @@ fn run(
     table: &mut [u8; 17609],
     bytes: &mut [u8; 1048576],
 ) {
+    show_fresh(table, bytes);
     let mut left = RECORDS;
     while 0 < left {
         if !replay(name, image, table, bytes) {

@@ -8,6 +8,9 @@ Inv-loop name₀ image₀ table₀ bytes₀ left₀ name image table bytes left 
 abbrev μ-loop : tie.MeasureT-loop
 μ-loop name₀ image₀ table₀ bytes₀ left₀ name image table bytes left = left
 
+show-fresh-requires : tie.Need-show-fresh-requires Inv-loop μ-loop
+show-fresh-requires c κs = search needs
+
 loop-holds : tie.Need-loop-holds Inv-loop μ-loop
 loop-holds c = search needs
 
@@ -35,6 +38,7 @@ run-spec =
     (tie.spec
     Inv-loop
     μ-loop
+    show-fresh-requires
     loop-holds
     replay-requires
     returns
