@@ -19,6 +19,7 @@ use Rattle.image.specs.declared.walk.Walk.{Walk}
 use Rattle.image.specs.declared.walk.Head.{Head}
 use Rattle.image.specs.declared.walk.Row.{Row}
 use Rattle.image.proofs.Tracks.{down, whole-part, sectors-length, contents-whole, track-good}
+use Rattle.disk.proofs.Rounds.{rows-length, rows-before, contents-length}
 use Rattle.disk.specs.Store.{rowFor, rowsFor, tracksFor, tableOf, contents, dataOf}
 use Rattle.disk.specs.Fresh.{blank, blanksFrom, formatted, freshFrom}
 use Rattle.disk.specs.Laying.{headBytes, rowBytes, listFrom, trackFor, formattedBy, theDisk, toLay, Layable}
@@ -45,29 +46,17 @@ lay-none t at rest goal p e = sym (over-nil t at) ∙ ap (over t at) (sym e) ∙
 
 -- ---- the parts of a table
 
-pub rows-append : (ss : List Sector) (rest : List ℕ) → rowsFor ss rest ≡ rowsFor ss [] ++ rest
-unfolding rowsFor
-rows-append [] rest = refl
-rows-append (s ∷ ss) rest = ap (rowFor s) (rows-append ss rest)
+rows-append : (ss : List Sector) (rest : List ℕ) → rowsFor ss rest ≡ rowsFor ss [] ++ rest
+rows-append ss rest = sym (rows-before ss [] rest)
 
 pub tracks-append : (t : Track) (ts : Disk) → tracksFor (t ∷ ts) [] ≡ trackFor t ++ tracksFor ts []
 unfolding tracksFor
 tracks-append t ts =
     ap (λ (l : List ℕ). t .cylinder ∷ t .side ∷ t .size ∷ t .gap ∷ t .filler ∷ length (t .sectors) ∷ l) (rows-append (t .sectors) (tracksFor ts []))
 
-pub rows-length : (ss : List Sector) → length (rowsFor ss []) ≡ 8 * length ss
-unfolding rowsFor
-rows-length [] = refl
-rows-length (s ∷ ss) = omega (arith, rows-length ss)
-
 pub track-length : (t : Track) → length (trackFor t) ≡ 6 + 8 * length (t .sectors)
 unfolding tracksFor
-track-length t = omega (arith, rows-length (t .sectors))
-
-pub contents-length : (ss : List Sector) → length (contents ss) ≡ total (λ (s : Sector). length (s .content)) ss
-unfolding contents total
-contents-length [] = refl
-contents-length (s ∷ ss) = simp length-append (omega (arith, contents-length ss))
+track-length t = omega (arith, rows-length (t .sectors) [])
 
 -- a sector whose data are whole has the row of its entry
 row-is : (row : Row) (b rest : List ℕ) → length (take (row .stored) b) ≡ row .stored → rowFor (sectorOf row b) rest ≡ rowBytes row ++ rest

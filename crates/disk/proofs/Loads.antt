@@ -30,7 +30,8 @@ use Rattle.disk.specs.Fresh.{fresh, freshFrom}
 use Rattle.disk.specs.Calls.{outcome, laid, within, fitting, loadOf, freshOf}
 use Rattle.disk.specs.Laying.{headBytes, listFrom, trackFor, theDisk, toLay, Layable, doneOf, capacityOf}
 use Rattle.disk.specs.declared.answer.Done.the-variants as done
-use Rattle.disk.proofs.Lays.{lay-on, lay-none, tracks-append, track-length, contents-length, track-laid, bytes-laid, fresh-tracks, fresh-sectors, fresh-bytes}
+use Rattle.disk.proofs.Rounds.{contents-length}
+use Rattle.disk.proofs.Lays.{lay-on, lay-none, tracks-append, track-length, track-laid, bytes-laid, fresh-tracks, fresh-sectors, fresh-bytes}
 
 -- ---- the capacities
 

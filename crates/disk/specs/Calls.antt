@@ -53,11 +53,11 @@ geometryOf (good d) = geometry.Of (greatest isSide0 d) (greatest (λ t. not (isS
 -- ---- Changing
 
 -- what a changing call answers and leaves in the table and in the data buffer
-pub data Outcome : Type 0 where
-  outcome : Done → List ℕ → List ℕ → Outcome
+pub data Outcome (A : Type 0) : Type 0 where
+  outcome : A → List ℕ → List ℕ → Outcome A
 
 -- a refusal leaves every byte as it came; a new disk is laid over what was there
-abbrev pub laid : List ℕ → List ℕ → Result Disk → Outcome
+abbrev pub laid : List ℕ → List ℕ → Result Disk → Outcome Done
 laid t b (refused why) = outcome (done.Refused why) t b
 laid t b (good d) = outcome done.Good (over t 0 (tableOf d)) (over b 0 (dataOf d))
 
@@ -71,9 +71,9 @@ abbrev pub fitting : ℕ → Disk → Result Disk
 fitting room d = within (length d) (sectorCount d) (byteCount d) room (good d)
 
 -- `Disk::new`: 2 for the table's length, then what the reader meets, then the capacities
-unfoldable pub loadOf : List ℕ → List ℕ → List ℕ → Outcome
+unfoldable pub loadOf : List ℕ → List ℕ → List ℕ → Outcome Done
 loadOf image t b = laid t b (need (eqb (length t) tableLength) BadStore (after (dskOf image) (λ d. fitting (roomOf b) (d .disk))))
 
 -- `new_formatted`: 2 for the table's length, then 8
-unfoldable pub freshOf : List ℕ → List ℕ → Outcome
+unfoldable pub freshOf : List ℕ → List ℕ → Outcome Done
 freshOf t b = laid t b (need (eqb (length t) tableLength) BadStore (fitting (roomOf b) fresh))
