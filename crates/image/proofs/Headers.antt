@@ -22,34 +22,34 @@ use Rattle.image.specs.declared.walk.Named.{Named}
 use Rattle.image.specs.declared.walk.Named.the-variants as named
 use Rattle.image.specs.declared.walk.Opened.the-variants as opened
 use Rattle.image.specs.declared.walk.Entry.the-variants.{Absent, Size}
-use Rattle.image.proofs.Readers.{told-short, told-same, told-other}
+use Rattle.image.proofs.Readers.{told}
 
 -- ---- the kind
 
 module _ (b : List ℕ) where
   pub kind-short : (why : Refusal) → stringOf extendedText b 0 ≡ text.Refused why → named.Refused why ≡ namedOf (kindOf b)
   unfolding kindOf
-  kind-short why e = let f = told-short extendedText b 0 why e in simp (f .0, f .1)
+  kind-short why e = let f = told extendedText b 0 (text.Refused why) e in simp (f .0, f .1)
 
   pub kind-extended : stringOf extendedText b 0 ≡ text.Same → named.Of Extended ≡ namedOf (kindOf b)
   unfolding kindOf
-  kind-extended e = let f = told-same extendedText b 0 e in simp (f .0, f .1)
+  kind-extended e = let f = told extendedText b 0 text.Same e in simp (f .0, f .1)
 
   module _ (e : stringOf extendedText b 0 ≡ text.Other) where
     -- twelve bytes are there, so the eight that the second compare needs are too
     pub kind-never : (why : Refusal) → stringOf normalText b 0 ≡ text.Refused why → named.Refused why ≡ namedOf (kindOf b)
     kind-never why g =
-        let f : 12 ≤ length b = leb-true 12 (length b) (told-other extendedText b 0 e .0) in
-        let h : length b < 8 = leb-false 8 (length b) (told-short normalText b 0 why g .0) in
+        let f : 12 ≤ length b = leb-true 12 (length b) (told extendedText b 0 text.Other e .0) in
+        let h : length b < 8 = leb-false 8 (length b) (told normalText b 0 (text.Refused why) g .0) in
         absurd (omega arith)
 
     pub kind-normal : stringOf normalText b 0 ≡ text.Same → named.Of Normal ≡ namedOf (kindOf b)
     unfolding kindOf
-    kind-normal g = let f = told-other extendedText b 0 e in let h = told-same normalText b 0 g in simp (f .0, f .1, h .1)
+    kind-normal g = let f = told extendedText b 0 text.Other e in let h = told normalText b 0 text.Same g in simp (f .0, f .1, h .1)
 
     pub kind-none : stringOf normalText b 0 ≡ text.Other → named.Refused NotAnImage ≡ namedOf (kindOf b)
     unfolding kindOf
-    kind-none g = let f = told-other extendedText b 0 e in let h = told-other normalText b 0 g in simp (f .0, f .1, h .1)
+    kind-none g = let f = told extendedText b 0 text.Other e in let h = told normalText b 0 text.Other g in simp (f .0, f .1, h .1)
 
 -- ---- the table
 

@@ -12,6 +12,7 @@ use Rattle.buffer.specs.Same.{sameBytes}
 use Rattle.image.specs.declared.refusal.Refusal.{Refusal}
 use Rattle.image.specs.declared.refusal.Refusal.the-variants.{ShortImage}
 use Rattle.image.specs.declared.read.Read.the-variants as read
+use Rattle.image.specs.declared.read.Text.{Text}
 use Rattle.image.specs.declared.read.Text.the-variants as text
 
 -- the test of a sum that could wrap, made without it
@@ -65,30 +66,20 @@ module _ (t b : List ℕ) (at : ℕ) (s : Bool) (e : s ≡ ltb (length b) (at + 
       simp (le-leb _ _ (whole (length t) b at s e h), y)
 
 -- and what each of them says
-module _ (t b : List ℕ) (at : ℕ) where
-  pub told-short : (why : Refusal) → stringOf t b at ≡ text.Refused why → (leb (at + length t) (length b) ≡ false) × (why ≡ ShortImage)
-  unfolding stringOf
-  told-short why e = told (leb (at + length t) (length b)) (textAt t b at) e
-    where
-      told : (l x : Bool) → cond l (cond x text.Same text.Other) (text.Refused ShortImage) ≡ text.Refused why → (l ≡ false) × (why ≡ ShortImage)
-      told true true e = (cc, cc)
-      told true false e = (cc, cc)
-      told false x e = (refl, cc)
+abbrev pub Told : List ℕ → List ℕ → ℕ → Text → Type 0
+Told t b at (text.Refused why) = (leb (at + length t) (length b) ≡ false) × (why ≡ ShortImage)
+Told t b at text.Same = (leb (at + length t) (length b) ≡ true) × (textAt t b at ≡ true)
+Told t b at text.Other = (leb (at + length t) (length b) ≡ true) × (textAt t b at ≡ false)
 
-  pub told-same : stringOf t b at ≡ text.Same → (leb (at + length t) (length b) ≡ true) × (textAt t b at ≡ true)
-  unfolding stringOf
-  told-same e = told (leb (at + length t) (length b)) (textAt t b at) e
-    where
-      told : (l x : Bool) → cond l (cond x text.Same text.Other) (text.Refused ShortImage) ≡ text.Same → (l ≡ true) × (x ≡ true)
-      told true true e = (refl, refl)
-      told true false e = (refl, cc)
-      told false x e = (cc, cc)
+answered : (t b : List ℕ) (at : ℕ) → Told t b at (stringOf t b at)
+unfolding stringOf
+answered t b at = whichever (leb (at + length t) (length b)) refl (textAt t b at) refl
+  where
+    whichever : (l : Bool) → leb (at + length t) (length b) ≡ l → (m : Bool) → textAt t b at ≡ m
+        → Told t b at (cond l (cond m text.Same text.Other) (text.Refused ShortImage))
+    whichever true p true q = (p, q)
+    whichever true p false q = (p, q)
+    whichever false p m q = (p, refl)
 
-  pub told-other : stringOf t b at ≡ text.Other → (leb (at + length t) (length b) ≡ true) × (textAt t b at ≡ false)
-  unfolding stringOf
-  told-other e = told (leb (at + length t) (length b)) (textAt t b at) e
-    where
-      told : (l x : Bool) → cond l (cond x text.Same text.Other) (text.Refused ShortImage) ≡ text.Other → (l ≡ true) × (x ≡ false)
-      told true true e = (refl, cc)
-      told true false e = (refl, refl)
-      told false x e = (cc, cc)
+pub told : (t b : List ℕ) (at : ℕ) (x : Text) → stringOf t b at ≡ x → Told t b at x
+told t b at x e = rw e at (answered t b at)

@@ -19,7 +19,7 @@ use Rattle.image.specs.declared.walk.Kind.{Kind}
 use Rattle.image.specs.declared.walk.Head.{Head}
 use Rattle.image.specs.declared.walk.Block.{Block}
 use Rattle.image.specs.declared.walk.Block.the-variants as block
-use Rattle.image.proofs.Readers.{told-short, told-same, told-other}
+use Rattle.image.proofs.Readers.{told}
 
 -- a step of a definition that counts down, said of k above 0 and k - 1
 pub down : (P : ℕ → ℕ → Type 0) → ((k : ℕ) → P (suc k) k) → (k : ℕ) → 0 < k → P k (k - 1)
@@ -127,15 +127,15 @@ module _ (kind : Kind) (b : List ℕ) where
 
   pub track-short : (why : Refusal) → stringOf trackText b 0 ≡ text.Refused why → block.Refused why ≡ blockOf (trackOf kind b)
   unfolding trackOf
-  track-short why e = let f = told-short trackText b 0 why e in simp (f .0, f .1)
+  track-short why e = let f = told trackText b 0 (text.Refused why) e in simp (f .0, f .1)
 
   pub track-other : stringOf trackText b 0 ≡ text.Other → block.Refused NotATrack ≡ blockOf (trackOf kind b)
   unfolding trackOf
-  track-other e = let f = told-other trackText b 0 e in simp (f .0, f .1)
+  track-other e = let f = told trackText b 0 text.Other e in simp (f .0, f .1)
 
   pub track-body : (r : Block) → stringOf trackText b 0 ≡ text.Same → r ≡ blockOf (bodyOf kind b) → r ≡ blockOf (trackOf kind b)
   unfolding trackOf
-  track-body r e q = let f = told-same trackText b 0 e in simp (f .0, f .1) q
+  track-body r e q = let f = told trackText b 0 text.Same e in simp (f .0, f .1) q
 
   -- a track that was read has its first twelve bytes
   pub track-there : (h : Head) → block.Head h ≡ blockOf (trackOf kind b) → 12 ≤ length b
