@@ -17,9 +17,9 @@ use Rattle.disk.specs.declared.survey.Totals.{Totals}
 use Rattle.disk.specs.declared.survey.Totals.the-variants.{Bad, Good}
 use Rattle.disk.proofs.Sums.{counts-step, bytes-step, end-step, counts-none, bytes-none, end-none, end-is, track-sum}
 
--- ---- a conjunction that is tested part by part
+-- ---- a conjunction, part by part
 
--- a number v that was read, compared with b as part of a conjunction
+-- a number v that was read, compared with b as its first part or its last
 module _ (v a b : ℕ) (e : v ≡ a) where
   pub test-other : (y : Bool) → (v ≡ b → ⊥) → false ≡ (eqb a b && y)
   test-other y h = rw (← e) (simp (ne-eqb v b h))
@@ -30,6 +30,7 @@ module _ (v a b : ℕ) (e : v ≡ a) where
   pub test-last : eqb v b ≡ eqb a b
   test-last = ap (λ (n : ℕ). eqb n b) e
 
+-- both parts of one that holds
 and-fst : (x y : Bool) → (x && y) ≡ true → x ≡ true
 and-fst true y e = refl
 and-fst false y e = e
@@ -40,15 +41,16 @@ and-snd false y e = let z : _≡_ {A = ℕ} 0 1 = cc in absurd (omega arith)
 
 -- ---- a table that keeps the layout
 
-pub record Laid (t : List ℕ) (room : ℕ) : Type 0 where
+-- what its test says
+pub record Kept (t : List ℕ) (room : ℕ) : Type 0 where
   pub long : length t ≡ tableLength
   pub tracks : byteAt t 0 ≤ 204
   pub sectors : countsAt t 1 (byteAt t 0) ≤ 2048
   pub bytes : bytesAt t 1 (byteAt t 0) ≤ room
 
-pub laid : (t : List ℕ) (room : ℕ) → wellLaid t room ≡ true → Laid t room
+pub kept : (t : List ℕ) (room : ℕ) → wellLaid t room ≡ true → Kept t room
 unfolding wellLaid
-laid t room e =
+kept t room e =
     let few : Bool = leb (countsAt t 1 (byteAt t 0)) 2048 in
     let small : Bool = leb (bytesAt t 1 (byteAt t 0)) room in
     let f = and-snd (eqb (length t) tableLength) (leb (byteAt t 0) 204 && (few && small)) e in
@@ -60,7 +62,7 @@ laid t room e =
       bytes = leb-true _ _ (and-snd few small g);
     }
 
-pub well-laid : (t : List ℕ) (room : ℕ) → Laid t room → wellLaid t room ≡ true
+pub well-laid : (t : List ℕ) (room : ℕ) → Kept t room → wellLaid t room ≡ true
 unfolding wellLaid
 well-laid t room l = simp (eq-eqb _ _ (l .long), le-leb _ _ (l .tracks), le-leb _ _ (l .sectors), le-leb _ _ (l .bytes))
 
@@ -68,7 +70,7 @@ well-laid t room l = simp (eq-eqb _ _ (l .long), le-leb _ _ (l .tracks), le-leb 
 pub walkable : (t b : List ℕ) → wellLaid t (roomOf b) ≡ true → Walkable t
 unfolding roomOf
 walkable t b e =
-    let l = laid t (roomOf b) e in
+    let l = kept t (roomOf b) e in
     record { long = l .long; ends = omega (arith, end-is t 1 (byteAt t 0)); total = omega arith }
 
 -- the disk that a store holds, by its check
@@ -90,6 +92,10 @@ disk-told t b d e = told (wellLaid t (roomOf b)) e
 
 -- ---- the answers of `survey`
 
+-- how much a table holds, and where its rows end
+abbrev totalsOf : List ℕ → Totals
+totalsOf t = Good (countsAt t 1 (byteAt t 0)) (bytesAt t 1 (byteAt t 0)) (endAt t 1 (byteAt t 0))
+
 pub bad-length : (t : List ℕ) (room : ℕ) → (length t ≡ tableLength → ⊥) → Bad ≡ surveyOf t room
 unfolding surveyOf wellLaid
 bad-length t room h = simp (ne-eqb _ _ h)
@@ -107,8 +113,7 @@ bad-bytes : (t : List ℕ) (room : ℕ) → length t ≡ tableLength → byteAt 
 unfolding surveyOf wellLaid
 bad-bytes t room l k n h = simp (eq-eqb _ _ l, le-leb _ _ k, le-leb _ _ n, lt-leb _ _ h)
 
-good-all : (t : List ℕ) (room : ℕ) → Laid t room
-    → Good (countsAt t 1 (byteAt t 0)) (bytesAt t 1 (byteAt t 0)) (endAt t 1 (byteAt t 0)) ≡ surveyOf t room
+good-all : (t : List ℕ) (room : ℕ) → Kept t room → totalsOf t ≡ surveyOf t room
 unfolding surveyOf
 good-all t room l = simp (well-laid t room l)
 
@@ -164,27 +169,27 @@ module _ (t : List ℕ) where
           let e : sectors ≡ countsAt t 1 (byteAt t 0) = omega (arith, counts-none t at left h) in
           let f : bytes ≡ bytesAt t 1 (byteAt t 0) = omega (arith, bytes-none t at left h) in
           let g : at ≡ endAt t 1 (byteAt t 0) = omega (arith, end-none t at left h) in
-          let l : Laid t room = record { long = s .long; tracks = s .tracks; sectors = omega arith; bytes = omega arith } in
+          let l : Kept t room = record { long = s .long; tracks = s .tracks; sectors = omega arith; bytes = omega arith } in
           cc (e, f, g, good-all t room l)
 
 -- ---- what an answer says, at the room that the code worked out
 
 module _ (t b : List ℕ) (room : ℕ) (e : room ≡ roomOf b) (r : Totals) (s : r ≡ surveyOf t room) where
   -- the test that the answer was made by
-  tested : (x : Totals) → r ≡ x → x ≡ cond (wellLaid t (roomOf b)) (Good (countsAt t 1 (byteAt t 0)) (bytesAt t 1 (byteAt t 0)) (endAt t 1 (byteAt t 0))) Bad
+  tested : (x : Totals) → r ≡ x → x ≡ cond (wellLaid t (roomOf b)) (totalsOf t) Bad
   unfolding surveyOf
   tested x f = sym f ∙ s ∙ ap (surveyOf t) e
 
   pub laid-no : r ≡ Bad → wellLaid t (roomOf b) ≡ false
   laid-no f = told (wellLaid t (roomOf b)) (tested Bad f)
     where
-      told : (v : Bool) → Bad ≡ cond v (Good (countsAt t 1 (byteAt t 0)) (bytesAt t 1 (byteAt t 0)) (endAt t 1 (byteAt t 0))) Bad → v ≡ false
+      told : (v : Bool) → Bad ≡ cond v (totalsOf t) Bad → v ≡ false
       told true q = let z : _≡_ {A = ℕ} 0 1 = cc in absurd (omega arith)
       told false q = refl
 
   pub laid-yes : (x y z : ℕ) → r ≡ Good x y z → wellLaid t (roomOf b) ≡ true
   laid-yes x y z f = told (wellLaid t (roomOf b)) (tested (Good x y z) f)
     where
-      told : (v : Bool) → Good x y z ≡ cond v (Good (countsAt t 1 (byteAt t 0)) (bytesAt t 1 (byteAt t 0)) (endAt t 1 (byteAt t 0))) Bad → v ≡ true
+      told : (v : Bool) → Good x y z ≡ cond v (totalsOf t) Bad → v ≡ true
       told true q = refl
       told false q = let z : _≡_ {A = ℕ} 0 1 = cc in absurd (omega arith)

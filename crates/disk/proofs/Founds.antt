@@ -2,12 +2,12 @@
 use mathlib.Core.Path.{_≡_, refl, sym, ap, ap₂, subst, _∙_}
 use Prim.Native.Nat.{ℕ, zero, suc, _+_, _-_, _*_, _%_, _≤_, _<_, max}
 use native.Mathlib.Omega.{arith}
+use native.Mathlib.Nat.{mod-lt}
 use mathlib.Core.List.{List, []}
 use mathlib.Core.Bool.{Bool, true, false, cond, not}
 use lib.ListN.{length, take, drop}
 use lib.Dec.{eqb}
 use lib.Seq.{drop-nil}
-use native.Mathlib.Nat.{mod-lt}
 use Rattle.image.specs.Bytes.{byteAt}
 use Rattle.image.specs.Refusals.{Result, refused, good}
 use Rattle.image.specs.Model.{Sector, Track, Disk}
@@ -30,8 +30,9 @@ use Rattle.disk.specs.declared.answer.Has.the-variants as has
 use Rattle.disk.specs.declared.answer.Geometry.{Geometry}
 use Rattle.disk.specs.declared.answer.Geometry.the-variants as geometry
 use Rattle.disk.proofs.Sums.{end-is}
-use Rattle.disk.proofs.Checks.{laid, walkable, disk-bad, disk-good}
+use Rattle.disk.proofs.Checks.{kept, walkable, disk-bad, disk-good}
 
+-- a function of a choice is the choice of what it answers
 cond-map : {A B : Type 0} (f : A → B) (b : Bool) (x y : A) → cond b (f x) (f y) ≡ f (cond b x y)
 cond-map f true x y = refl
 cond-map f false x y = refl
@@ -39,40 +40,42 @@ cond-map f false x y = refl
 -- ---- what is found
 
 -- what stands at a spot
-pub trackOf : List ℕ → List ℕ → Spot → Found Track
-trackOf t b Nothing = nothing
-trackOf t b (At i at place) = found i (trackAt t b at place)
+pub trackAtSpot : List ℕ → List ℕ → Spot → Found Track
+trackAtSpot t b Nothing = nothing
+trackAtSpot t b (At i at place) = found i (trackAt t b at place)
 
-abbrev pub rowOf : List ℕ → List ℕ → Spot → Found Sector
-rowOf t b Nothing = nothing
-rowOf t b (At i at place) = found i (sectorOf (rowAt t at) (drop place b))
+abbrev pub rowAtSpot : List ℕ → List ℕ → Spot → Found Sector
+rowAtSpot t b Nothing = nothing
+rowAtSpot t b (At i at place) = found i (sectorOf (rowAt t at) (drop place b))
 
 module _ (t b : List ℕ) where
+  -- the first track, and the first row, with its index
   pub find-track : (side cylinder i at place k : ℕ)
-      → findFrom i (isTrack side cylinder) (tracksAt t b at place k) ≡ trackOf t b (trackSpot t side cylinder i at place k)
-  unfolding findFrom tracksAt trackSpot trackOf
+      → findFrom i (isTrack side cylinder) (tracksAt t b at place k) ≡ trackAtSpot t b (trackSpot t side cylinder i at place k)
+  unfolding findFrom tracksAt trackSpot trackAtSpot
   find-track side cylinder i at place zero = refl
   find-track side cylinder i at place (suc k) =
       ap (cond (trackHere t side cylinder at) (found i (trackAt t b at place)))
       (find-track side cylinder (i + 1) (nextAt t at) (place + trackSum t at) k)
-      ∙ cond-map (trackOf t b) (trackHere t side cylinder at) (At i at place) _
+      ∙ cond-map (trackAtSpot t b) (trackHere t side cylinder at) (At i at place) _
 
   pub find-row : (id : SectorId) (i at place k : ℕ)
-      → findFrom i (isSector id) (sectorsAt t b at place k) ≡ rowOf t b (sectorSpot t id i at place k)
+      → findFrom i (isSector id) (sectorsAt t b at place k) ≡ rowAtSpot t b (sectorSpot t id i at place k)
   unfolding findFrom sectorsAt sectorSpot rowAt
   find-row id i at place zero = refl
   find-row id i at place (suc k) =
       ap (cond (rowHere t id at) (found i (sectorOf (rowAt t at) (drop place b))))
       (find-row id (i + 1) (at + 8) (place + rowAt t at .stored) k)
-      ∙ cond-map (rowOf t b) (rowHere t id at) (At i at place) _
+      ∙ cond-map (rowAtSpot t b) (rowHere t id at) (At i at place) _
 
-  in-spot : (id : SectorId) (s : Spot) → inTrack id (trackOf t b s) ≡ rowOf t b (spotIn t id s)
-  unfolding trackOf
+  -- the row of an address
+  in-spot : (id : SectorId) (s : Spot) → inTrack id (trackAtSpot t b s) ≡ rowAtSpot t b (spotIn t id s)
+  unfolding trackAtSpot
   in-spot id Nothing = refl
   in-spot id (At i at place) = find-row id 0 (at + 6) place (countAt t at)
 
   pub sector-found : (side cylinder : ℕ) (id : SectorId)
-      → sectorAt (tracksAt t b 1 0 (byteAt t 0)) side cylinder id ≡ rowOf t b (storeSpot t side cylinder id)
+      → sectorAt (tracksAt t b 1 0 (byteAt t 0)) side cylinder id ≡ rowAtSpot t b (storeSpot t side cylinder id)
   unfolding sectorAt storeSpot
   sector-found side cylinder id =
       ap (inTrack id) (find-track side cylinder 0 1 0 (byteAt t 0)) ∙ in-spot id (trackSpot t side cylinder 0 1 0 (byteAt t 0))
@@ -132,6 +135,7 @@ module _ (t : List ℕ) where
   unfolding storeSpot
   no-track side cylinder id e = ap (spotIn t id) e
 
+  -- the row of an address stands in the table, and its bytes among those that were counted
   pub spot-in : (side cylinder : ℕ) (id : SectorId) (i a p : ℕ) → Walkable t → At i a p ≡ storeSpot t side cylinder id
       → (a + 8 ≤ tableLength) × (p + rowAt t a .stored ≤ bytesAt t 1 (byteAt t 0))
   unfolding storeSpot
@@ -153,6 +157,7 @@ turnedOf t b at place Empty = nothing
 turnedOf t b at place (Row j a) = found j (sectorOf (rowAt t a) (drop (place + sumAt t (at + 6) j) b))
 
 module _ (t b : List ℕ) where
+  -- as many sectors as rows, and the one at an index
   pub sectors-count : (at place k : ℕ) → length (sectorsAt t b at place k) ≡ k
   unfolding sectorsAt
   sectors-count at place zero = refl
@@ -187,8 +192,8 @@ module _ (t b : List ℕ) (side cylinder : ℕ) (id : SectorId) where
   located-bad e = record { says = rw (disk-bad t b e); within = tt }
 
   module _ (e : wellLaid t (roomOf b) ≡ true) where
-    spot-says : (s : Spot) → s ≡ storeSpot t side cylinder id → good (rowOf t b s) ≡ searched (diskOf t b) side cylinder id
-    spot-says s f = rw (disk-good t b e) (ap (λ (x : Spot). good (rowOf t b x)) f ∙ ap good (sym (sector-found t b side cylinder id)))
+    spot-says : (s : Spot) → s ≡ storeSpot t side cylinder id → good (rowAtSpot t b s) ≡ searched (diskOf t b) side cylinder id
+    spot-says s f = rw (disk-good t b e) (ap (λ (x : Spot). good (rowAtSpot t b x)) f ∙ ap good (sym (sector-found t b side cylinder id)))
 
     pub located-none : Nothing ≡ storeSpot t side cylinder id → Located t b side cylinder id place.Nothing
     located-none f = record { says = spot-says Nothing f; within = tt }
@@ -200,7 +205,7 @@ module _ (t b : List ℕ) (side cylinder : ℕ) (id : SectorId) where
       part-inside =
           let w = walkable t b e in
           let h = spot-in t side cylinder id i a p w f in
-          let l = laid t (roomOf b) e in
+          let l = kept t (roomOf b) e in
           (omega (arith, h .0, w .long), (omega (arith, h .1, l .bytes), omega (arith, h .1, l .bytes)))
 
       pub located-part : (n : ℕ) → n ≡ rowAt t a .stored → Located t b side cylinder id (place.Part i a p (p + n))
@@ -254,6 +259,7 @@ module _ (t b : List ℕ) (side cylinder : ℕ) (id : SectorId) (r : Place) (l :
 
 -- ---- the greatest cylinders
 
+-- those met before, and those of the tracks that are left
 pub cylinders-are : (t b : List ℕ) (c0 c1 at place k : ℕ) → cylindersAt t c0 c1 at k
     ≡ geometry.Of (max c0 (greatest isSide0 (tracksAt t b at place k))) (max c1 (greatest (λ x. not (isSide0 x)) (tracksAt t b at place k)))
 unfolding cylindersAt tracksAt greatest

@@ -14,13 +14,14 @@ use Rattle.image.specs.Dsk.{rowAt, sectorOf}
 use Rattle.disk.specs.Store.{tableLength, roomOf, rowFor, rowsFor, tracksFor, tableOf, contents, dataOf, sectorsAt, sumAt, countAt, nextAt, trackSum, tracksAt, countsAt, bytesAt, diskOf}
 use Rattle.disk.specs.Spots.{endAt}
 use Rattle.disk.proofs.Sums.{end-is}
-use Rattle.disk.proofs.Checks.{laid, disk-told}
+use Rattle.disk.proofs.Checks.{kept, disk-told}
 use Rattle.disk.proofs.Founds.{sectors-count}
 use Rattle.disk.proofs.Rounds.{sizeIn, table-length, data-length, over-front, tracks-before}
 
 -- ---- how much is read
 
 module _ (t b : List ℕ) where
+  -- as many tracks as were counted, and as many sectors
   pub tracks-count : (at place k : ℕ) → length (tracksAt t b at place k) ≡ k
   unfolding tracksAt
   tracks-count at place zero = refl
@@ -50,6 +51,7 @@ module _ (t b : List ℕ) where
 
   -- ---- the data buffer
 
+  -- what stands from a place on is what is read there, before the rest
   pub contents-laid : (at place k : ℕ) → drop place b ≡ contents (sectorsAt t b at place k) ++ drop (place + sumAt t at k) b
   unfolding sectorsAt sumAt contents
   contents-laid at place zero = ap (λ (n : ℕ). drop n b) (sym (add-zero place))
@@ -79,7 +81,7 @@ module _ (t b : List ℕ) where
 -- ---- the table
 
 module _ (t : List ℕ) (at : ℕ) where
-  -- one byte, and those of a track and of a row
+  -- one byte, and the six that a track and a row begin with
   cut : (i : ℕ) → at + i < length t → drop (at + i) t ≡ byteAt t (at + i) ∷ drop (at + (i + 1)) t
   cut i h =
       let z : suc (at + i) ≡ at + (i + 1) = omega arith in
@@ -101,6 +103,7 @@ stored-bytes : (x y n : ℕ) → x < 256 → n ≡ x + 256 * (y + 256 * 0) → (
 stored-bytes x y n h e = (omega arith, omega arith)
 
 module _ (t b : List ℕ) (small : (k : ℕ) → byteAt t k < 256) where
+  -- what stands from a place on is what is read there, before the rest
   row-laid : (at place : ℕ) → at + 8 ≤ length t → place + rowAt t at .stored ≤ length b
       → drop at t ≡ rowFor (sectorOf (rowAt t at) (drop place b)) (drop (at + 8) t)
   unfolding rowAt numberAt
@@ -160,7 +163,7 @@ module _ (t b : List ℕ) (d : Disk) where
   unfolding roomOf
   fits e =
       let w = disk-told t b d e in
-      let l = laid t (roomOf b) (w .0) in
+      let l = kept t (roomOf b) (w .0) in
       let n = byteAt t 0 in
       rw (w .1) (record {
         long = l .long;
@@ -169,11 +172,12 @@ module _ (t b : List ℕ) (d : Disk) where
         bytes = omega (arith, bytes-are t b 1 0 n (omega (arith, l .bytes)), l .bytes);
       })
 
+  -- and it is laid there
   pub is-laid : ((k : ℕ) → byteAt t k < 256) → diskOf t b ≡ good d → (t ≡ over t 0 (tableOf d)) × (b ≡ over b 0 (dataOf d))
   unfolding roomOf tableOf
   is-laid small e =
       let w = disk-told t b d e in
-      let l = laid t (roomOf b) (w .0) in
+      let l = kept t (roomOf b) (w .0) in
       let n : ℕ = byteAt t 0 in
       let x : Disk = tracksAt t b 1 0 n in
       let end : ℕ = endAt t 1 n in

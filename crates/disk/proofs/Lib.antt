@@ -1,4 +1,4 @@
--- Laws that more than one proof cites, and those that the writing side uses.
+-- Laws that more than one proof cites, and those that the crates above use.
 pub mod Sums
 pub mod Checks
 pub mod Walks

@@ -14,13 +14,15 @@ use Rattle.image.specs.Model.{Sector, Track, Disk, total, trackBytes, sectorCou
 use Rattle.image.specs.Dsk.{rowAt}
 use Rattle.image.specs.declared.walk.Row.{Row}
 use Rattle.disk.specs.Store.{tableLength, roomOf, rowFor, rowsFor, tracksFor, tableOf, contents, dataOf, sectorsAt, sumAt, countAt, nextAt, trackSum, trackAt, tracksAt, countsAt, bytesAt, diskOf}
-use Rattle.disk.proofs.Checks.{Laid, well-laid, disk-good}
+use Rattle.disk.proofs.Checks.{Kept, well-laid, disk-good}
 
 -- ---- lengths
 
+-- how many bytes sectors store
 abbrev pub sizeIn : List Sector → ℕ
 sizeIn ss = total (λ s. length (s .content)) ss
 
+-- a row has eight bytes, a track six more, a table one more
 pub rows-length : (ss : List Sector) (r : List ℕ) → length (rowsFor ss r) ≡ 8 * length ss + length r
 unfolding rowsFor
 rows-length [] r = omega arith
@@ -35,6 +37,7 @@ pub table-length : (d : Disk) → length (tableOf d) ≡ 1 + 6 * length d + 8 * 
 unfolding tableOf
 table-length d = omega (arith, tracks-length d [])
 
+-- the data are as long as the contents together
 pub contents-length : (ss : List Sector) → length (contents ss) ≡ sizeIn ss
 unfolding contents total
 contents-length [] = refl
@@ -47,6 +50,7 @@ data-length (x ∷ d) = length-append (contents (x .sectors)) (dataOf d) ∙ ap�
 
 -- ---- what follows
 
+-- what is put behind rows is what follows them
 pub rows-before : (ss : List Sector) (r q : List ℕ) → rowsFor ss r ++ q ≡ rowsFor ss (r ++ q)
 unfolding rowsFor
 rows-before [] r q = refl
@@ -92,6 +96,7 @@ row-back t at s r e =
 
 -- ---- rows and contents
 
+-- the sum of so many rows, and what follows them
 pub sum-back : (ss : List Sector) (t : List ℕ) (at : ℕ) (r : List ℕ) → drop at t ≡ rowsFor ss r → sumAt t at (length ss) ≡ sizeIn ss
 unfolding sumAt rowsFor total
 sum-back [] t at r e = refl
@@ -113,6 +118,7 @@ module _ (b : List ℕ) (place : ℕ) (c q : List ℕ) (e : drop place b ≡ c +
   pub part-after : drop (place + n) b ≡ q
   part-after = next-back b place (c ++ q) e n ∙ drop-at c q n h
 
+-- the sectors of so many rows
 pub sectors-back : (ss : List Sector) (t b : List ℕ) (at place : ℕ) (r q : List ℕ) → drop at t ≡ rowsFor ss r → drop place b ≡ contents ss ++ q
     → sectorsAt t b at place (length ss) ≡ ss
 unfolding sectorsAt rowsFor contents
@@ -133,6 +139,7 @@ abbrev pub trackFor : Track → List ℕ → List ℕ
 trackFor x r = x .cylinder ∷ x .side ∷ x .size ∷ x .gap ∷ x .filler ∷ length (x .sectors) ∷ rowsFor (x .sectors) r
 
 module _ (t : List ℕ) (at : ℕ) (x : Track) (r : List ℕ) (e : drop at t ≡ trackFor x r) where
+  -- how many sectors and bytes a track has, what follows it, and the track
   pub count-back : countAt t at ≡ length (x .sectors)
   count-back = byte-back t at (trackFor x r) e 5
 
@@ -158,6 +165,7 @@ module _ (t : List ℕ) (at : ℕ) (x : Track) (r : List ℕ) (e : drop at t ≡
         sectors = ss i;
       }
 
+-- how many sectors and bytes so many tracks have, and the tracks
 pub counts-back : (d : Disk) (t : List ℕ) (at : ℕ) (r : List ℕ) → drop at t ≡ tracksFor d r → countsAt t at (length d) ≡ sectorCount d
 unfolding countsAt tracksFor total
 counts-back [] t at r e = refl
@@ -189,11 +197,12 @@ unfolding over
 over-front l s = let z : 0 + length s ≡ length s = omega arith in rw z
 
 module _ (t b : List ℕ) (d : Disk) (long : length t ≡ tableLength) (tracks : length d ≤ 204) (sectors : sectorCount d ≤ 2048) (bytes : byteCount d ≤ roomOf b) where
-  -- the table and the data buffer as they stand then
+  -- the table as it stands then
   table-laid : over t 0 (tableOf d) ≡ length d ∷ tracksFor d (drop (length (tableOf d)) t)
   unfolding tableOf
   table-laid = over-front t (tableOf d) ∙ ap (λ (l : List ℕ). length d ∷ l) (tracks-before d [] (drop (length (tableOf d)) t))
 
+  -- neither length changes
   pub table-long : length (over t 0 (tableOf d)) ≡ tableLength
   table-long = over-length t 0 (tableOf d) (omega (arith, table-length d)) ∙ long
 
@@ -201,6 +210,7 @@ module _ (t b : List ℕ) (d : Disk) (long : length t ≡ tableLength) (tracks :
   unfolding roomOf
   room-kept = ap (λ (n : ℕ). min n 1048576) (over-length b 0 (dataOf d) (omega (arith, data-length d)))
 
+  -- what is laid is read back
   pub laid-back : diskOf (over t 0 (tableOf d)) (over b 0 (dataOf d)) ≡ good d
   laid-back =
       let r : List ℕ = drop (length (tableOf d)) t in
@@ -210,7 +220,7 @@ module _ (t b : List ℕ) (d : Disk) (long : length t ≡ tableLength) (tracks :
       let e : drop 1 u ≡ tracksFor d r = ap (drop 1) table-laid in
       let counts : countsAt u 1 (byteAt u 0) ≡ sectorCount d = rw n (counts-back d u 1 r e) in
       let size : bytesAt u 1 (byteAt u 0) ≡ byteCount d = rw n (bytes-back d u 1 r e) in
-      let l : Laid u (roomOf v) = record { long = table-long; tracks = omega arith; sectors = omega arith; bytes = omega (arith, room-kept) } in
+      let l : Kept u (roomOf v) = record { long = table-long; tracks = omega arith; sectors = omega arith; bytes = omega (arith, room-kept) } in
       disk-good u v (well-laid u (roomOf v) l)
       ∙ ap good (rw n (tracks-back d u v 1 0 r (drop (length (dataOf d)) b) e (over-front b (dataOf d))))
 

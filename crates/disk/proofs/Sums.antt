@@ -9,9 +9,9 @@ use Rattle.disk.specs.Store.{tableLength, sumAt, countAt, nextAt, trackS
 use Rattle.disk.specs.Spots.{endAt}
 
 -- what a definition that counts down answers where nothing is left
-pub none : (P : ℕ → Type 0) → P 0 → (k : ℕ) → k ≤ 0 → P k
-none P p zero h = p
-none P p (suc k) h = absurd (omega arith)
+pub down-none : (P : ℕ → Type 0) → P 0 → (k : ℕ) → k ≤ 0 → P k
+down-none P p zero h = p
+down-none P p (suc k) h = absurd (omega arith)
 
 module _ (t : List ℕ) (at : ℕ) where
   -- one row, and one track
@@ -34,19 +34,19 @@ module _ (t : List ℕ) (at : ℕ) where
   -- no row, and no track
   pub sum-none : (k : ℕ) → k ≤ 0 → sumAt t at k ≡ 0
   unfolding sumAt
-  sum-none = none (λ k. sumAt t at k ≡ 0) refl
+  sum-none = down-none (λ k. sumAt t at k ≡ 0) refl
 
   pub counts-none : (k : ℕ) → k ≤ 0 → countsAt t at k ≡ 0
   unfolding countsAt
-  counts-none = none (λ k. countsAt t at k ≡ 0) refl
+  counts-none = down-none (λ k. countsAt t at k ≡ 0) refl
 
   pub bytes-none : (k : ℕ) → k ≤ 0 → bytesAt t at k ≡ 0
   unfolding bytesAt
-  bytes-none = none (λ k. bytesAt t at k ≡ 0) refl
+  bytes-none = down-none (λ k. bytesAt t at k ≡ 0) refl
 
   pub end-none : (k : ℕ) → k ≤ 0 → endAt t at k ≡ at
   unfolding endAt
-  end-none = none (λ k. endAt t at k ≡ at) refl
+  end-none = down-none (λ k. endAt t at k ≡ at) refl
 
 -- where so many tracks end
 pub end-is : (t : List ℕ) (at k : ℕ) → endAt t at k ≡ at + 6 * k + 8 * countsAt t at k

@@ -17,7 +17,7 @@ use Rattle.disk.specs.Spots.{endAt, trackHere, trackSpot, rowHere, secto
 use Rattle.disk.specs.declared.find.Spot.the-variants.{Nothing, At}
 use Rattle.disk.specs.declared.find.Turned.the-variants.{Empty, Row}
 use Rattle.disk.specs.declared.answer.Geometry.the-variants.{Of}
-use Rattle.disk.proofs.Sums.{none, sum-step, bytes-step, end-step, within, track-sum}
+use Rattle.disk.proofs.Sums.{down-none, sum-step, bytes-step, end-step, within, track-sum}
 
 -- ---- tracks
 
@@ -31,8 +31,9 @@ module _ (t : List ℕ) (side cylinder i at place : ℕ) where
 
   track-none : (k : ℕ) → k ≤ 0 → trackSpot t side cylinder i at place k ≡ Nothing
   unfolding trackSpot
-  track-none = none (λ k. trackSpot t side cylinder i at place k ≡ Nothing) refl
+  track-none = down-none (λ k. trackSpot t side cylinder i at place k ≡ Nothing) refl
 
+-- what the search for a track knows at its head
 pub record TrackWalk (t : List ℕ) (side cylinder left index at place : ℕ) : Type 0 where
   pub ends : endAt t at left ≤ tableLength
   pub total : place + bytesAt t at left ≤ 1048576
@@ -82,8 +83,9 @@ module _ (t : List ℕ) (id : SectorId) (i at place : ℕ) where
 
   row-none : (k : ℕ) → k ≤ 0 → sectorSpot t id i at place k ≡ Nothing
   unfolding sectorSpot
-  row-none = none (λ k. sectorSpot t id i at place k ≡ Nothing) refl
+  row-none = down-none (λ k. sectorSpot t id i at place k ≡ Nothing) refl
 
+-- what the search for a row knows at its head
 pub record RowWalk (t : List ℕ) (id : SectorId) (start first count left index at place : ℕ) : Type 0 where
   pub ends : at + 8 * left ≤ tableLength
   pub total : place + sumAt t at left ≤ 1048576
@@ -117,6 +119,7 @@ module _ (t : List ℕ) (id : SectorId) (start first count : ℕ) where
 
 -- ---- a row by its index
 
+-- what `get_sector_by_idx` answers, its count read before
 module _ (t : List ℕ) (at i n m : ℕ) (e : n ≡ m) where
   pub turn-none : n ≡ 0 → Empty ≡ turned t at i m
   turn-none h = let z : m ≡ 0 = cc in rw z
@@ -128,6 +131,7 @@ module _ (t : List ℕ) (at i n m : ℕ) (e : n ≡ m) where
       some zero g = absurd (g refl)
       some (suc k) g = refl
 
+-- a turned index is below the count
 pub turn-inside : (i n : ℕ) → (n ≡ 0 → ⊥) → i % n < n
 turn-inside i zero h = absurd (h refl)
 turn-inside i (suc n) h = mod-lt i (omega arith)
@@ -146,8 +150,9 @@ module _ (t : List ℕ) (c0 c1 at : ℕ) where
 
   cylinder-none : (k : ℕ) → k ≤ 0 → cylindersAt t c0 c1 at k ≡ Of c0 c1
   unfolding cylindersAt
-  cylinder-none = none (λ k. cylindersAt t c0 c1 at k ≡ Of c0 c1) refl
+  cylinder-none = down-none (λ k. cylindersAt t c0 c1 at k ≡ Of c0 c1) refl
 
+-- what the loop of `cylinders` knows at its head
 pub record CylinderWalk (t : List ℕ) (left at c0 c1 : ℕ) : Type 0 where
   pub ends : endAt t at left ≤ tableLength
   pub low0 : c0 < 256
@@ -159,6 +164,7 @@ module _ (t : List ℕ) where
   cylinder-start k e w = record { ends = rw e (w .ends); low0 = omega arith; low1 = omega arith; rest = rw e }
 
   module _ (left at c0 c1 : ℕ) (w : CylinderWalk t left at c0 c1) where
+    -- the track at hand ends inside the table
     pub cylinder-inside : 0 < left → nextAt t at ≤ tableLength
     cylinder-inside h = within t at left tableLength h (w .ends)
 

@@ -1,3 +1,4 @@
+use native.Mathlib.Omega.{arith}
 use Prim.Native.Nat.{_≤_}
 use lib.ListN.{length}
 use Rattle.disk.proofs.Founds.{part-in, part-bytes, said-bytes}
@@ -41,13 +42,13 @@ enum-known-from : tie.Need-enum-known-from
 enum-known-from c = search needs
 
 sub-result-3 : tie.Need-sub-result-3
-sub-result-3 c = inside c .0
+sub-result-3 c = omega (arith, inside c)
 
 part-result-start-3 : tie.Need-part-result-start-3
-part-result-start-3 c = inside c .0
+part-result-start-3 c = omega (arith, inside c)
 
 part-result-end-3 : tie.Need-part-result-end-3
-part-result-end-3 c = inside c .1
+part-result-end-3 c = omega (arith, inside c)
 
 returns : tie.Need-returns
 returns c = said-bytes _ _ _ _ _ _ (c .before .before .before .locate .ensures) _ (c .before .enum-told .given .1)

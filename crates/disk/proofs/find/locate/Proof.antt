@@ -58,8 +58,8 @@ cast-to c = search needs
 add-to : tie.Need-add-to
 add-to c =
     let d = c .before .before .before in
-    let e : c .before .row-at .result .stored ≡ _ = ap (λ (r : Row). r .stored) (c .before .row-at .ensures) in
-    omega (arith, part-inside _ _ _ _ _ (laid-here (d .before .before .before)) _ _ _ (found-here d) .1 .1)
+    let h = part-inside _ _ _ _ _ (laid-here (d .before .before .before)) _ _ _ (found-here d) in
+    omega (arith, h .1 .1, ap (λ (r : Row). r .stored) (c .before .row-at .ensures))
 
 returns : tie.Need-returns
 returns c =

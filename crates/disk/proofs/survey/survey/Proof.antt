@@ -1,3 +1,4 @@
+use native.Mathlib.Omega.{arith}
 use Rattle.disk.proofs.Checks.{Surveyed, survey-start, survey-again, bad-length, bad-tracks, bad-more, bad-end, good-end}
 use borrow.Author.Needs.{needs}
 use Rattle.disk.proofs.survey.survey.Statement.{statement}
@@ -16,7 +17,7 @@ byte-requires : tie.Need-byte-requires Inv-loop μ-loop
 byte-requires c κs = search needs
 
 returns-2 : tie.Need-returns-2 Inv-loop μ-loop
-returns-2 c = bad-tracks _ _ _ (c .before .before .if1 .left) (c .before .byte .ensures .0) (c .if2 .taken)
+returns-2 c = bad-tracks _ _ _ (c .before .before .if1 .left) (c .before .byte .ensures .0) (omega arith)
 
 loop-holds : tie.Need-loop-holds Inv-loop μ-loop
 loop-holds c = survey-start _ _ (c .before .byte .ensures .0) (c .before .before .if1 .left) (c .if2 .left)
@@ -33,7 +34,7 @@ add-if3 c = search needs
 returns-3 : tie.Need-returns-3 Inv-loop μ-loop
 returns-3 c =
     let d = c .before .before in
-    bad-more _ _ _ _ _ (d .before .loop .inv) _ _ (d .loop-test .taken) (c .before .byte2 .ensures .0) (c .if3 .taken)
+    bad-more _ _ _ _ _ (d .before .loop .inv) _ _ (d .loop-test .taken) (c .before .byte2 .ensures .0) (omega arith)
 
 add-rows-len : tie.Need-add-rows-len Inv-loop μ-loop
 add-rows-len c = search needs
