@@ -40,7 +40,7 @@ cond-map f false x y = refl
 -- ---- what is found
 
 -- what stands at a spot
-pub trackAtSpot : List ℕ → List ℕ → Spot → Found Track
+unfoldable pub trackAtSpot : List ℕ → List ℕ → Spot → Found Track
 trackAtSpot t b Nothing = nothing
 trackAtSpot t b (At i at place) = found i (trackAt t b at place)
 

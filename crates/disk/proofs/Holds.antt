@@ -34,7 +34,7 @@ module _ (t b : List ℕ) where
       ap₂ _+_ (sectors-count t b (at + 6) place (countAt t at)) (counts-are (nextAt t at) (place + trackSum t at) k)
 
   -- bytes that end inside are as many as the rows say
-  part-whole : (place n : ℕ) → place + n ≤ length b → length (take n (drop place b)) ≡ n
+  pub part-whole : (place n : ℕ) → place + n ≤ length b → length (take n (drop place b)) ≡ n
   part-whole place n h = simp (length-take, length-drop) (omega arith)
 
   pub sizes-are : (at place k : ℕ) → place + sumAt t at k ≤ length b → sizeIn (sectorsAt t b at place k) ≡ sumAt t at k

@@ -7,3 +7,8 @@ pub mod Rounds
 pub mod Holds
 pub mod Lays
 pub mod Loads
+pub mod Extents
+pub mod Gathers
+pub mod Servings
+pub mod Cuts
+pub mod Saves

@@ -3,6 +3,9 @@ pub mod Store
 pub mod Find
 pub mod Search
 pub mod Fresh
+pub mod Change
 pub mod Calls
 pub mod Spots
 pub mod Laying
+pub mod Runs
+pub mod Saving

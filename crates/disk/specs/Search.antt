@@ -1,5 +1,5 @@
 -- What 01 says of disks: the searches and the geometry ("Modules in port order", 3).
-use Prim.Native.Nat.{ℕ, _%_, max}
+use Prim.Native.Nat.{ℕ, zero, suc, _+_, _-_, _%_, max}
 use mathlib.Core.List.{List, [], _∷_}
 use mathlib.Core.Bool.{Bool, cond, not, _&&_}
 use lib.ListN.{length}
@@ -24,6 +24,29 @@ inTrack id (found i t) = find (isSector id) (t .sectors)
 -- the sector at an address: the first matching track's first matching sector
 unfoldable pub sectorAt : Disk → ℕ → ℕ → SectorId → Found Sector
 sectorAt d side cylinder id = inTrack id (find (isTrack side cylinder) d)
+
+-- the same ID with another number
+abbrev pub numbered : SectorId → ℕ → SectorId
+numbered id r = record { c = id .c; h = id .h; r = r; n = id .n }
+
+-- a sector before those read behind it; nothing is read behind a number that has no sector
+abbrev pub joined : Found Sector → List Sector → List Sector
+joined nothing rest = []
+joined (found i s) rest = s ∷ rest
+
+-- what is read of so many numbers from r on: the first match of each, up to the first number that has no sector
+unfoldable pub runFrom : SectorId → List Sector → ℕ → ℕ → List Sector
+runFrom id ss r zero = []
+runFrom id ss r (suc left) = joined (find (isSector (numbered id r)) ss) (runFrom id ss (r + 1) left)
+
+-- what a Read Data reads of the track that was found: r, and if eot > r the numbers r + 1 to eot
+abbrev pub readIn : SectorId → ℕ → Found Track → List Sector
+readIn id eot nothing = []
+readIn id eot (found i t) = runFrom id (t .sectors) (id .r) (suc (eot - id .r))
+
+-- the sectors that a Read Data reads, none where its first is missing
+unfoldable pub readAt : Disk → ℕ → ℕ → SectorId → ℕ → List Sector
+readAt d side cylinder id eot = readIn id eot (find (isTrack side cylinder) d)
 
 -- the sector with an index, counted round the track: `get_sector_by_idx`
 unfoldable pub byIndex : ℕ → Track → Found Sector

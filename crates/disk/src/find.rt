@@ -53,7 +53,7 @@ fn track_here(table: &[u8], at: usize, side: u8, cylinder: u8) -> bool
 }
 
 // Whether the row at a place has the ID that is looked for.
-fn row_here(table: &[u8], at: usize, id: SectorId) -> bool
+pub fn row_here(table: &[u8], at: usize, id: SectorId) -> bool
     requires { ⌜ at < 65536 ⌝ }
     ensures { λ r. ⌜ r ≡ rowHere (now (table .entry)) id at ⌝ }
 {
@@ -151,7 +151,7 @@ fn cylinders(table: &[u8]) -> Geometry
     Geometry::Of(c0 as u8, c1 as u8)
 }
 
-fn greater(a: usize, b: usize) -> usize
+pub fn greater(a: usize, b: usize) -> usize
     ensures { λ r. ⌜ r ≡ max a b ⌝ }
 {
     if a < b { b } else { a }

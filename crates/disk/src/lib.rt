@@ -2,17 +2,24 @@
 mod answer;
 mod find;
 mod lay;
+mod saving;
+mod serve;
 mod survey;
 
 pub use answer::Done;
 pub use answer::Geometry;
 pub use answer::Has;
+pub use answer::Reading;
+pub use answer::Saved;
+pub use answer::Served;
 use find::Place;
 pub use find::geometry;
 use find::locate;
 use image::SectorId;
 pub use lay::new;
 pub use lay::new_formatted;
+pub use saving::save;
+pub use serve::read;
 ghost use mathlib.Core.Path.{_≡_};
 ghost use Rattle.disk.specs.Store.{diskOf};
 ghost use Rattle.disk.specs.Calls.{lookupOf, hasOf};

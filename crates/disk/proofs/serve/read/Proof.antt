@@ -1,0 +1,77 @@
+use mathlib.Core.Path.{_≡_, sym, _∙_}
+use Prim.Native.Nat.{_+_, _≤_}
+use native.Mathlib.Omega.{arith}
+use Rattle.disk.proofs.Checks.{walkable, laid-yes, laid-no}
+use Rattle.disk.proofs.Servings.{read-bad, read-none, read-rows, read-found, track-near}
+use borrow.Author.Needs.{needs}
+use Rattle.disk.proofs.serve.read.Statement.{statement}
+use Rattle.disk.proofs.serve.read.Tie as tie
+
+-- a track that was found stands in the table
+inside : (c : tie.After-at) → c .at .given .0 .1 .0 + 6 ≤ 17609
+inside c = track-near _ _ _ _ _ _ (walkable _ _ (laid-yes _ _ _ (c .before .before .before .before .before .before .room-of .ensures .0) _ (c .before .before .before .before .before .survey .ensures) _ _ _ (c .before .before .before .enum-told2 .given .1))) (sym (c .at .given .1) ∙ c .before .before .get-track .ensures)
+
+room-of-requires : tie.Need-room-of-requires
+room-of-requires c κs = search needs
+
+survey-requires : tie.Need-survey-requires
+survey-requires c κs = search needs
+
+enum-told : tie.Need-enum-told
+enum-told c = search needs
+
+enum-told-2 : tie.Need-enum-told-2
+enum-told-2 c = search needs
+
+get-track-requires : tie.Need-get-track-requires
+get-track-requires c κs = walkable _ _ (laid-yes _ _ _ (c .before .before .before .room-of .ensures .0) _ (c .before .before .survey .ensures) _ _ _ (c .enum-told2 .given .1))
+
+enum-told-3 : tie.Need-enum-told-3
+enum-told-3 c = search needs
+
+enum-known-at : tie.Need-enum-known-at
+enum-known-at c = search needs
+
+add-byte : tie.Need-add-byte
+add-byte c = omega (arith, inside (c .before))
+
+byte-requires : tie.Need-byte-requires
+byte-requires c κs = search needs
+
+add-read-rows : tie.Need-add-read-rows
+add-read-rows c = omega (arith, inside (c .before .before))
+
+read-rows-requires : tie.Need-read-rows-requires
+read-rows-requires c κs = read-rows _ _ (c .before .before .before .before .before .before .before .before .before .before .before .before .before .args .transfer .now) _ _ (c .before .before .before .before .before .before .before .before .before .before .before .before .before .args .eot) (c .before .before .before .before .before .before .before .before .before .before .before .before .before .args .id) (laid-yes _ _ _ (c .before .before .before .before .before .before .before .before .before .room-of .ensures .0) _ (c .before .before .before .before .before .before .before .before .survey .ensures) _ _ _ (c .before .before .before .before .before .before .enum-told2 .given .1)) _ _ _ _ (sym (c .before .before .before .at .given .1) ∙ c .before .before .before .before .before .get-track .ensures) (c .before .byte .ensures .0) (c .before .byte .ensures .1)
+
+returns : tie.Need-returns
+returns c = read-bad _ _ _ _ _ _ _ (laid-no _ _ _ (c .before .before .before .room-of .ensures .0) _ (c .before .before .survey .ensures) (c .enum-told .given .1))
+
+returns-2 : tie.Need-returns-2
+returns-2 c = read-none _ _ _ _ _ _ _ (laid-yes _ _ _ (c .before .before .before .before .before .before .room-of .ensures .0) _ (c .before .before .before .before .before .survey .ensures) _ _ _ (c .before .before .before .enum-told2 .given .1)) (sym (c .enum-told3 .given .1) ∙ c .before .before .get-track .ensures)
+
+same-length : tie.Need-same-length
+same-length c = search needs
+
+returns-3 : tie.Need-returns-3
+returns-3 c = read-found _ _ _ _ _ _ _ (laid-yes _ _ _ (c .before .before .before .before .before .before .before .before .before .before .before .before .room-of .ensures .0) _ (c .before .before .before .before .before .before .before .before .before .before .before .survey .ensures) _ _ _ (c .before .before .before .before .before .before .before .before .before .enum-told2 .given .1)) _ _ _ _ (sym (c .before .before .before .before .before .before .at .given .1) ∙ c .before .before .before .before .before .before .before .before .get-track .ensures) (c .before .before .before .before .byte .ensures .0) _ _ (c .before .before .read-rows .ensures)
+
+pub read-spec : {M : Type 1} → statement M
+read-spec =
+    tie.close
+    (tie.spec
+    room-of-requires
+    survey-requires
+    enum-told
+    enum-told-2
+    get-track-requires
+    enum-told-3
+    enum-known-at
+    add-byte
+    byte-requires
+    add-read-rows
+    read-rows-requires
+    returns
+    returns-2
+    same-length
+    returns-3)

@@ -1,0 +1,16 @@
+use native.Mathlib.Omega.{arith}
+use Rattle.disk.specs.Calls.{transferRoom}
+use borrow.Author.Needs.{needs}
+use Rattle.disk.proofs.serve.transfer_room.Statement.{statement}
+use Rattle.disk.proofs.serve.transfer_room.Tie as tie
+
+returns : tie.Need-returns
+unfolding transferRoom
+returns c = (omega arith, omega arith)
+
+returns-2 : tie.Need-returns-2
+unfolding transferRoom
+returns-2 c = (omega arith, omega arith)
+
+pub transfer-room-spec : {M : Type 1} → statement M
+transfer-room-spec = tie.close (tie.spec returns returns-2)

@@ -1,0 +1,111 @@
+// A save: the sector at an address takes new bytes, and with them their length.
+use crate::answer::Saved;
+use crate::find::Spot;
+use crate::find::find_sector;
+use crate::survey::Totals;
+use crate::survey::room_of;
+use crate::survey::survey;
+use image::Refusal;
+use image::SectorId;
+ghost use mathlib.Core.Path.{_≡_};
+ghost use Prim.Native.Nat.{_+_, _-_, _<_, _≤_};
+ghost use mathlib.Core.List.{_++_};
+ghost use lib.ListN.{length};
+ghost use lib.Seq.{slice};
+ghost use Rattle.buffer.specs.Over.{over};
+ghost use Rattle.image.specs.Dsk.{rowAt};
+ghost use Rattle.disk.specs.Calls.{outcome, saveOf};
+ghost use Rattle.disk.specs.Saving.{lengthBytes, judged, planOf};
+
+// What a save will do: refuse, find no sector, or put its bytes over those of [from, to), before the others up to `end`.
+enum Plan {
+    Refused(Refusal),
+    Missing,
+    Put {
+        row: usize,
+        from: usize,
+        to: usize,
+        end: usize,
+    },
+}
+
+// Puts `new` in the place of the bytes of [from, to); those that stood behind, up to `end`, follow it.
+pub fn splice(buf: &mut [u8], from: usize, to: usize, end: usize, new: &[u8])
+    requires { ⌜ (to ≤ end) × ((end ≤ length (now buf)) × (from + length (now new) + (end - to) ≤ length (now buf))) ⌝ }
+    ensures { λ _. ⌜ now (buf .exit) ≡ over (now (buf .entry)) from (now (new .entry) ++ slice to end (now (buf .entry))) ⌝ }
+{
+    buffer::shift(buf, to, from + new.len(), end);
+    buffer::copy_in(buf, from, new);
+}
+
+// Writes the stored length of the row at a place.
+fn put_length(table: &mut [u8], at: usize, count: usize)
+    requires { ⌜ (at + 8 ≤ length (now table)) × (count < 65536) ⌝ }
+    ensures { λ _. ⌜ now (table .exit) ≡ over (now (table .entry)) (at + 6) (lengthBytes count) ⌝ }
+{
+    let low = count % 256;
+    let high = count / 256;
+    let bytes = [low as u8, high as u8];
+    buffer::copy_in(table, at + 6, &bytes);
+}
+
+// Whether the sector whose row and bytes were found can take so many bytes, where those of all sectors end at `end`.
+fn judge(table: &[u8], row: usize, from: usize, end: usize, count: usize, room: usize) -> Plan
+    requires { ⌜ (row < 65536) × ((from + rowAt (now table) row .stored ≤ end) × (end ≤ 1048576)) ⌝ }
+    ensures { λ r. ⌜ r ≡ judged (now (table .entry)) row from end count room ⌝ }
+{
+    let entry = image::row_at(table, row);
+    let old = entry.stored as usize;
+    if 65535 < count {
+        return Plan::Refused(Refusal::NoRoom);
+    }
+    if room < end - old + count {
+        return Plan::Refused(Refusal::NoRoom);
+    }
+    let to = from + old;
+    Plan::Put { row, from, to, end }
+}
+
+// What a save of so many bytes will do.
+fn prepare(table: &[u8], bytes: &[u8], side: u8, cylinder: u8, id: SectorId, count: usize) -> Plan
+    ensures { λ r. ⌜ r ≡ planOf (now (table .entry)) (now (bytes .entry)) side cylinder id count ⌝ }
+{
+    let room = room_of(bytes);
+    match survey(table, room) {
+        Totals::Bad => Plan::Refused(Refusal::BadStore),
+        Totals::Good {
+            sectors: _,
+            bytes: total,
+            end: _,
+        } => match find_sector(table, side, cylinder, id) {
+            Spot::Nothing => Plan::Missing,
+            Spot::At {
+                index: _,
+                at,
+                place,
+            } => judge(table, at, place, total, count, room),
+        },
+    }
+}
+
+// Gives the sector at an address new bytes and their length.
+pub fn save(
+    table: &mut [u8],
+    bytes: &mut [u8],
+    side: u8,
+    cylinder: u8,
+    id: SectorId,
+    new: &[u8],
+) -> Saved
+    ensures { λ r. ⌜ outcome r (now (table .exit)) (now (bytes .exit)) ≡ saveOf (now (table .entry)) (now (bytes .entry)) side cylinder id (now (new .entry)) ⌝ }
+{
+    match prepare(table, bytes, side, cylinder, id, new.len()) {
+        Plan::Refused(why) => Saved::Refused(why),
+        Plan::Missing => Saved::Missing,
+        Plan::Put { row, from, to, end } => {
+            splice(bytes, from, to, end, new);
+            put_length(table, row, new.len());
+            Saved::Good
+        }
+    }
+}
