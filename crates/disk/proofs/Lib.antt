@@ -10,5 +10,6 @@ pub mod Loads
 pub mod Extents
 pub mod Gathers
 pub mod Servings
+pub mod Indexes
 pub mod Cuts
 pub mod Saves

@@ -215,9 +215,6 @@ module _ (t b : List ℕ) (start first count : ℕ) (rows : Rows t b start first
 
 -- ---- a read of a store
 
-pub track-near : (t : List ℕ) (side cylinder i at place : ℕ) → Walkable t → At i at place ≡ trackSpot t side cylinder 0 1 0 (byteAt t 0) → at + 6 ≤ 17609
-track-near t side cylinder i at place w f = omega (arith, track-in t side cylinder 0 1 0 (byteAt t 0) i at place (sym f) .0, w .ends)
-
 module _ (t b x : List ℕ) (side cylinder eot : ℕ) (id : SectorId) where
   pub read-bad : wellLaid t (roomOf b) ≡ false → filled (reading.Refused BadStore) x ≡ readOf t b side cylinder id eot x
   unfolding readOf

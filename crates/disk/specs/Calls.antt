@@ -13,7 +13,7 @@ use Rattle.image.specs.declared.id.SectorId.{SectorId}
 use Rattle.image.specs.declared.refusal.Refusal.{Refusal}
 use Rattle.image.specs.declared.refusal.Refusal.the-variants.{BadStore, TooManyTracks, TooManySectors, NoRoom, NoTransferRoom}
 use Rattle.disk.specs.Find.{Found, nothing, found}
-use Rattle.disk.specs.Search.{sectorAt, readAt, greatest, isSide0}
+use Rattle.disk.specs.Search.{sectorAt, sectorByIndex, readAt, greatest, isSide0}
 use Rattle.disk.specs.Store.{tableLength, roomOf, tableOf, contents, dataOf, diskOf}
 use Rattle.disk.specs.Fresh.{fresh}
 use Rattle.disk.specs.Change.{saved, setTrack}
@@ -21,6 +21,8 @@ use Rattle.disk.specs.declared.answer.Has.{Has}
 use Rattle.disk.specs.declared.answer.Has.the-variants as has
 use Rattle.disk.specs.declared.answer.Geometry.{Geometry}
 use Rattle.disk.specs.declared.answer.Geometry.the-variants as geometry
+use Rattle.disk.specs.declared.answer.IdFound.{IdFound}
+use Rattle.disk.specs.declared.answer.IdFound.the-variants as named
 use Rattle.disk.specs.declared.answer.Saved.{Saved}
 use Rattle.disk.specs.declared.answer.Saved.the-variants as saving
 use Rattle.disk.specs.declared.answer.Reading.{Reading}
@@ -54,6 +56,16 @@ hasOf (good d) side cylinder id = foundOf (sectorAt d side cylinder id)
 abbrev pub geometryOf : Result Disk → Geometry
 geometryOf (refused why) = geometry.Refused why
 geometryOf (good d) = geometry.Of (greatest isSide0 d) (greatest (λ t. not (isSide0 t)) d)
+
+-- the ID of a sector that was found
+abbrev pub namedOf : Found Sector → IdFound
+namedOf nothing = named.Missing
+namedOf (found i s) = named.Of (s .id)
+
+-- `id_by_idx`: 2, missing, or the ID of the sector with an index, counted round the track
+abbrev pub idOf : Result Disk → ℕ → ℕ → ℕ → IdFound
+idOf (refused why) side cylinder i = named.Refused why
+idOf (good d) side cylinder i = namedOf (sectorByIndex d side cylinder i)
 
 -- ---- Changing
 

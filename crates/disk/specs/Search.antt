@@ -52,6 +52,15 @@ readAt d side cylinder id eot = readIn id eot (find (isTrack side cylinder) d)
 unfoldable pub byIndex : ℕ → Track → Found Sector
 byIndex i t = nth (i % length (t .sectors)) (t .sectors)
 
+-- the sector with an index in the track that was found
+abbrev pub turnedIn : ℕ → Found Track → Found Sector
+turnedIn i nothing = nothing
+turnedIn i (found k t) = byIndex i t
+
+-- the sector that a Read ID finds
+unfoldable pub sectorByIndex : Disk → ℕ → ℕ → ℕ → Found Sector
+sectorByIndex d side cylinder i = turnedIn i (find (isTrack side cylinder) d)
+
 -- the greatest cylinder of the tracks that pass a test, 0 where there is none
 unfoldable pub greatest : (Track → Bool) → Disk → ℕ
 greatest p [] = 0

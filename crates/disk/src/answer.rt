@@ -1,5 +1,6 @@
 // What the public calls answer.
 use image::Refusal;
+use image::SectorId;
 use image::St1;
 use image::St2;
 
@@ -12,6 +13,13 @@ pub enum Has {
 // The greatest cylinder of side 0, and of all other sides.
 pub enum Geometry {
     Of(u8, u8),
+    Refused(Refusal),
+}
+
+// The ID that a Read ID finds.
+pub enum IdFound {
+    Of(SectorId),
+    Missing,
     Refused(Refusal),
 }
 

@@ -1,5 +1,6 @@
 // The searches: a track by cylinder and side, a sector by all four bytes of its ID, each the first that matches.
 use crate::answer::Geometry;
+use crate::answer::IdFound;
 use crate::survey::Totals;
 use crate::survey::room_of;
 use crate::survey::rows_len;
@@ -10,7 +11,7 @@ ghost use mathlib.Core.Path.{_≡_};
 ghost use Prim.Native.Nat.{_+_, _*_, _<_, _≤_, max};
 ghost use Rattle.image.specs.Bytes.{byteAt};
 ghost use Rattle.disk.specs.Store.{sumAt, diskOf};
-ghost use Rattle.disk.specs.Calls.{geometryOf};
+ghost use Rattle.disk.specs.Calls.{geometryOf, idOf};
 ghost use Rattle.disk.specs.Spots.{cylindersAt, indexSpot, trackHere, rowHere, trackSpot, sectorSpot, storeSpot, Walkable, Located};
 
 // Where a search ends: the index of what it found, its place in the table and that of its bytes.
@@ -211,6 +212,34 @@ pub fn locate(table: &[u8], bytes: &[u8], side: u8, cylinder: u8, id: SectorId) 
                     to,
                 }
             }
+        },
+    }
+}
+
+// The ID of the sector with this index, counted round the track with this side and cylinder.
+pub fn id_by_idx(table: &[u8], bytes: &[u8], side: u8, cylinder: u8, idx: u16) -> IdFound
+    ensures { λ r. ⌜ r ≡ idOf (diskOf (now (table .entry)) (now (bytes .entry))) side cylinder idx ⌝ }
+{
+    match survey(table, room_of(bytes)) {
+        Totals::Bad => IdFound::Refused(Refusal::BadStore),
+        Totals::Good {
+            sectors: _,
+            bytes: _,
+            end: _,
+        } => match get_track(table, side, cylinder) {
+            Spot::Nothing => IdFound::Missing,
+            Spot::At {
+                index: _,
+                at: track,
+                place: _,
+            } => match get_sector_by_idx(table, track, idx as usize) {
+                Turned::Empty => IdFound::Missing,
+                Turned::Row { index: _, at } => {
+                    let row = image::row_at(table, at);
+                    let id = row.id;
+                    IdFound::Of(id)
+                }
+            },
         },
     }
 }

@@ -2,7 +2,8 @@ use mathlib.Core.Path.{_≡_, sym, _∙_}
 use Prim.Native.Nat.{_+_, _≤_}
 use native.Mathlib.Omega.{arith}
 use Rattle.disk.proofs.Checks.{walkable, laid-yes, laid-no}
-use Rattle.disk.proofs.Servings.{read-bad, read-none, read-rows, read-found, track-near}
+use Rattle.disk.proofs.Indexes.{track-near}
+use Rattle.disk.proofs.Servings.{read-bad, read-none, read-rows, read-found}
 use borrow.Author.Needs.{needs}
 use Rattle.disk.proofs.serve.read.Statement.{statement}
 use Rattle.disk.proofs.serve.read.Tie as tie
