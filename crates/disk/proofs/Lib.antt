@@ -13,3 +13,7 @@ pub mod Servings
 pub mod Indexes
 pub mod Cuts
 pub mod Saves
+pub mod Sorts
+pub mod Blocks
+pub mod Turns
+pub mod Puts

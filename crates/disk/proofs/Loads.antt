@@ -195,7 +195,7 @@ module _ (img t₀ b₀ : List ℕ) (start : Walk) (kind : Kind) where
 count-first : (t : List ℕ) (n : ℕ) (rest : List ℕ) → 0 < length t → over (set t 0 n) 1 rest ≡ over t 0 (n ∷ rest)
 count-first t n rest h = ap (λ (x : List ℕ). over x 1 rest) (over-set t 0 n h) ∙ over-over t 0 (n ∷ []) rest 1 refl (omega arith)
 
-room-inside : (b : List ℕ) → roomOf b ≤ length b
+pub room-inside : (b : List ℕ) → roomOf b ≤ length b
 unfolding roomOf
 room-inside b = omega arith
 

@@ -9,3 +9,4 @@ pub mod Spots
 pub mod Laying
 pub mod Runs
 pub mod Saving
+pub mod Setting

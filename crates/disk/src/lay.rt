@@ -125,7 +125,7 @@ fn lay_tracks(image: &[u8], start: Walk, table: &mut [u8], bytes: &mut [u8])
 }
 
 // Whether the capacities allow so many tracks, sectors and bytes.
-fn capacity(tracks: usize, sectors: usize, bytes: usize, room: usize) -> Done
+pub fn capacity(tracks: usize, sectors: usize, bytes: usize, room: usize) -> Done
     ensures { λ r. ⌜ r ≡ capacityOf tracks sectors bytes room ⌝ }
 {
     if 204 < tracks {
@@ -204,7 +204,7 @@ fn put_blanks(table: &mut [u8], start: usize, head: Head)
 }
 
 // Lays a formatted track: its rows, and filler in one piece.
-fn lay_formatted(table: &mut [u8], at: usize, bytes: &mut [u8], place: usize, head: Head)
+pub fn lay_formatted(table: &mut [u8], at: usize, bytes: &mut [u8], place: usize, head: Head)
     requires { ⌜ (at + 6 + 8 * head .sectors ≤ length (now table)) × ((place + head .stored ≤ length (now bytes)) × (head .stored ≡ head .sectors * sizeOf (head .size))) ⌝ }
     ensures { λ _. ⌜ (now (table .exit) ≡ over (now (table .entry)) at (trackFor (formattedBy head))) × (now (bytes .exit) ≡ over (now (bytes .entry)) place (contents (formattedBy head .sectors))) ⌝ }
 {

@@ -4,6 +4,7 @@ mod find;
 mod lay;
 mod saving;
 mod serve;
+mod set;
 mod survey;
 
 pub use answer::Done;
@@ -22,6 +23,8 @@ pub use lay::new;
 pub use lay::new_formatted;
 pub use saving::save;
 pub use serve::read;
+pub use set::Format;
+pub use set::set_track;
 ghost use mathlib.Core.Path.{_≡_};
 ghost use Rattle.disk.specs.Store.{diskOf};
 ghost use Rattle.disk.specs.Calls.{lookupOf, hasOf};
