@@ -4,46 +4,11 @@ mod lookups;
 
 use std::io::{self, Cursor, ErrorKind, Write};
 
-use raze::disk::{Disk, Sector, Track};
+use raze::disk::Disk;
 
-use crate::Failure;
+use crate::capacities::Totals;
 use crate::stream::Record;
-
-/// The capacities of document 01. The Rust has none.
-const MOST_TRACKS: usize = 204;
-const MOST_SECTORS: usize = 2_048;
-const MOST_BYTES: usize = 1_048_576;
-
-/// How much a loaded disk holds.
-struct Totals {
-    tracks: usize,
-    sectors: usize,
-    bytes: usize,
-}
-
-impl Totals {
-    fn of(disk: &Disk) -> Totals {
-        let sectors = || disk.tracks().iter().flat_map(Track::sectors);
-        Totals {
-            tracks: disk.tracks().len(),
-            sectors: sectors().count(),
-            bytes: sectors().map(|sector| sector.data.len()).sum(),
-        }
-    }
-
-    /// The refusal number of document 01 for a disk beyond its capacities.
-    fn refusal(&self) -> Option<u8> {
-        if self.tracks > MOST_TRACKS {
-            Some(6)
-        } else if self.sectors > MOST_SECTORS {
-            Some(7)
-        } else if self.bytes > MOST_BYTES {
-            Some(8)
-        } else {
-            None
-        }
-    }
-}
+use crate::{Failure, dump};
 
 /// Loads the image of the record with the Rust and prints its answer.
 pub fn print(record: &Record, out: &mut impl Write) -> Result<(), Failure> {
@@ -78,11 +43,7 @@ fn refusal(error: &anyhow::Error) -> Option<u8> {
 
 fn print_disk(disk: &Disk, out: &mut impl Write) -> io::Result<()> {
     let totals = Totals::of(disk);
-    writeln!(
-        out,
-        "disk tracks {} sectors {} bytes {}",
-        totals.tracks, totals.sectors, totals.bytes
-    )?;
+    writeln!(out, "{totals}")?;
     if let Some(number) = totals.refusal() {
         return writeln!(out, "refused {number}");
     }
@@ -90,45 +51,6 @@ fn print_disk(disk: &Disk, out: &mut impl Write) -> io::Result<()> {
 }
 
 fn print_tracks(disk: &Disk, out: &mut impl Write) -> io::Result<()> {
-    let mut tracks = disk.tracks().iter();
-    tracks.try_for_each(|track| print_track(track, out))?;
+    dump::print(disk, out)?;
     lookups::print(disk, out)
-}
-
-fn print_track(track: &Track, out: &mut impl Write) -> io::Result<()> {
-    writeln!(
-        out,
-        "track {} {} {} {} {} {}",
-        track.cylinder(),
-        track.side(),
-        track.sector_size(),
-        track.gap3(),
-        track.filler(),
-        track.sectors().len()
-    )?;
-    let mut sectors = track.sectors().iter();
-    sectors.try_for_each(|sector| print_sector(sector, out))
-}
-
-fn print_sector(sector: &Sector, out: &mut impl Write) -> io::Result<()> {
-    let id = &sector.id;
-    writeln!(
-        out,
-        "sector {} {} {} {} {} {} {} {}",
-        id.c,
-        id.h,
-        id.r,
-        id.n,
-        sector.st1.bits(),
-        sector.st2.bits(),
-        sector.data.len(),
-        check(&sector.data)
-    )
-}
-
-/// The check number of stored bytes, which depends on each byte and its place.
-fn check(bytes: &[u8]) -> u64 {
-    bytes.iter().fold(0, |sum, &byte| {
-        (sum * 16_777_619 + u64::from(byte)) % 4_294_967_291
-    })
 }

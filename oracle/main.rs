@@ -1,11 +1,18 @@
-//! The oracle: the floppy emulator's own Rust, unchanged, asked for its answers
-//! on disk images. `oracle images` writes the list of images as a stream,
-//! `oracle answers` reads such a stream and prints what the Rust answers.
+//! The oracle: the floppy emulator's own Rust, unchanged, asked for its answers.
+//! `oracle images` writes a list of disk images as a stream, `oracle answers`
+//! reads such a stream and prints what the Rust answers. `oracle scripts` writes
+//! a list of scripts that change and read disks, `oracle outcomes` reads such a
+//! stream and prints what the Rust does.
 
 mod answers;
+mod capacities;
 mod dsk;
+mod dump;
 mod images;
 mod noise;
+mod outcomes;
+mod script;
+mod scripts;
 mod stream;
 
 use std::ffi::OsString;
@@ -37,7 +44,9 @@ impl Failure {
 impl fmt::Display for Failure {
     fn fmt(&self, f: &mut fmt::Formatter<'_>) -> fmt::Result {
         match self {
-            Failure::Usage => write!(f, "usage: oracle images | oracle answers"),
+            Failure::Usage => {
+                write!(f, "usage: oracle images | answers | scripts | outcomes")
+            }
             Failure::Stream(fault) => write!(f, "the stream is broken: {fault}"),
             Failure::Finding(error) => write!(f, "an error without a number: {error}"),
             Failure::Io(error) => write!(f, "{error}"),
@@ -56,6 +65,8 @@ fn main() -> ExitCode {
     let done = match arguments.as_slice() {
         [word] if word == "images" => print_images(),
         [word] if word == "answers" => print_answers(),
+        [word] if word == "scripts" => print_scripts(),
+        [word] if word == "outcomes" => print_outcomes(),
         _ => Err(Failure::Usage),
     };
     match done {
@@ -76,12 +87,34 @@ fn print_images() -> Result<(), Failure> {
 }
 
 fn print_answers() -> Result<(), Failure> {
-    let mut bytes = Vec::new();
-    io::stdin().read_to_end(&mut bytes)?;
+    let bytes = read_stream()?;
     let mut out = BufWriter::new(io::stdout().lock());
     answers::print_fresh(&mut out)?;
     for record in stream::read(&bytes).map_err(Failure::Stream)? {
         answers::print(&record, &mut out)?;
     }
     Ok(out.flush()?)
+}
+
+fn print_scripts() -> Result<(), Failure> {
+    let mut out = BufWriter::new(io::stdout().lock());
+    for script in scripts::list() {
+        script::write(&script, &mut out)?;
+    }
+    Ok(out.flush()?)
+}
+
+fn print_outcomes() -> Result<(), Failure> {
+    let bytes = read_stream()?;
+    let mut out = BufWriter::new(io::stdout().lock());
+    for script in script::read(&bytes).map_err(Failure::Stream)? {
+        outcomes::print(&script, &mut out)?;
+    }
+    Ok(out.flush()?)
+}
+
+fn read_stream() -> io::Result<Vec<u8>> {
+    let mut bytes = Vec::new();
+    io::stdin().read_to_end(&mut bytes)?;
+    Ok(bytes)
 }

@@ -54,21 +54,30 @@ pub fn write(record: &Record, out: &mut impl Write) -> io::Result<()> {
 }
 
 /// Reads every record of a stream, or says where and how it is broken.
-pub fn read(mut stream: &[u8]) -> Result<Vec<Record>, String> {
+pub fn read(stream: &[u8]) -> Result<Vec<Record>, String> {
+    read_all(stream, read_record)
+}
+
+/// Reads a stream to its end with what reads one record, or says which record is
+/// broken and how.
+pub fn read_all<T>(
+    mut stream: &[u8],
+    read_one: impl Fn(&mut &[u8]) -> Result<T, String>,
+) -> Result<Vec<T>, String> {
     let mut records = Vec::new();
     while !stream.is_empty() {
         let number = records.len() + 1;
-        let record = read_record(&mut stream).map_err(|fault| format!("record {number}: {fault}"));
+        let record = read_one(&mut stream).map_err(|fault| format!("record {number}: {fault}"));
         records.push(record?);
     }
     Ok(records)
 }
 
-fn read_record(stream: &mut &[u8]) -> Result<Record, String> {
-    let length = take(stream, 1, "length of the name")?[0];
+/// Reads one record of a stream and leaves what follows it.
+pub fn read_record(stream: &mut &[u8]) -> Result<Record, String> {
+    let [length] = take_array(stream, "length of the name")?;
     let name = take(stream, length.into(), "name")?;
-    let length = take(stream, 4, "length of the image")?;
-    let length = u32::from_le_bytes([length[0], length[1], length[2], length[3]]);
+    let length = u32::from_le_bytes(take_array(stream, "length of the image")?);
     let image = take(stream, length as usize, "image")?;
     Record::new(String::from_utf8_lossy(name).into_owned(), image.to_vec())
 }
@@ -77,4 +86,11 @@ fn take<'a>(stream: &mut &'a [u8], length: usize, what: &str) -> Result<&'a [u8]
     stream
         .split_off(..length)
         .ok_or_else(|| format!("the stream ends inside the {what}"))
+}
+
+/// Takes the next `N` bytes of a stream, or says that it ends inside `what`.
+pub fn take_array<const N: usize>(stream: &mut &[u8], what: &str) -> Result<[u8; N], String> {
+    let mut array = [0; N];
+    array.copy_from_slice(take(stream, N, what)?);
+    Ok(array)
 }

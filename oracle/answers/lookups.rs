@@ -5,6 +5,8 @@ use std::io::{self, Write};
 use raze::disk::{Disk, Sector, Track};
 use raze::floppy::SectorId;
 
+use crate::dump;
+
 /// Where a sector is looked for: side, cylinder, C, H, R and N.
 type Address = [u8; 6];
 
@@ -34,7 +36,7 @@ fn print_found(disk: &Disk, address: Address, out: &mut impl Write) -> io::Resul
     let track = disk.get_track(side, cylinder);
     write!(out, "at {side} {cylinder} {c} {h} {r} {n} ")?;
     match track.and_then(|track| track.get_sector(&id)) {
-        Some(Sector { data, .. }) => writeln!(out, "{} {}", data.len(), super::check(data)),
+        Some(Sector { data, .. }) => writeln!(out, "{} {}", data.len(), dump::check(data)),
         None => writeln!(out, "none"),
     }
 }

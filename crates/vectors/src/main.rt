@@ -2,11 +2,8 @@
 // store then holds and answers, in the form in which the Rust's own answers stand in `stdout`.
 // docs/ORACLE.md has both forms. The store is not cleared between two images.
 ghost use Prim.Native.Nat.{_+_, _*_, _<_, _≤_};
-use image::Row;
 use image::SectorId;
 use libc::STDERR_FILENO;
-use libc::STDIN_FILENO;
-use libc::STDOUT_FILENO;
 
 // More records than any list has.
 const RECORDS: u32 = 65536;
@@ -14,130 +11,28 @@ const RECORDS: u32 = 65536;
 // Past the rows of any table.
 const ROWS_END: usize = 17609;
 
-fn put(text: &[u8]) {
-    io::write_all(STDOUT_FILENO, text);
-}
-
-fn field(n: u64) {
-    put(b" ");
-    io::print_decimal(STDOUT_FILENO, n);
-}
-
-fn refused(why: image::Refusal) {
-    put(b"refused");
-    field(why.number() as u64);
-    put(b"\n");
-}
-
-// A number that tells one list of bytes from another.
-fn check_of(bytes: &[u8]) -> u64 {
-    let mut h: u64 = 0;
-    let mut i = 0;
-    while i < bytes.len() {
-        let b = bytes[i] as u64;
-        h = (h * 16777619 + b) % 4294967291;
-        i += 1;
-    }
-    h
-}
-
-fn show_content(content: &[u8]) {
-    field(content.len() as u64);
-    field(check_of(content));
-    put(b"\n");
-}
-
-fn show_id(id: SectorId) {
-    field(id.c as u64);
-    field(id.h as u64);
-    field(id.r as u64);
-    field(id.n as u64);
-}
-
-fn show_sector(row: Row, content: &[u8]) {
-    let st1 = row.st1;
-    let st2 = row.st2;
-    put(b"sector");
-    show_id(row.id);
-    field(st1.bits as u64);
-    field(st2.bits as u64);
-    show_content(content);
-}
-
-fn byte(table: &[u8], at: usize) -> u64 {
-    image::byte(table, at) as u64
-}
-
-// The track at a place of the table.
-fn show_track(table: &[u8], at: usize)
-    requires { ⌜ at < 17609 ⌝ }
-{
-    put(b"track");
-    field(byte(table, at));
-    field(byte(table, at + 1));
-    field(byte(table, at + 2));
-    field(byte(table, at + 3));
-    field(byte(table, at + 4));
-    field(byte(table, at + 5));
-    put(b"\n");
-}
-
-// The sectors of `count` rows, whose bytes start at a place; answers where they end.
-fn show_sectors(table: &[u8], bytes: &[u8], start: usize, count: usize, first: usize) -> usize
-    requires { ⌜ (start < 20000) × ((count < 256) × (first < 4294967296)) ⌝ }
-    ensures { λ r. ⌜ r ≤ first + 65535 * count ⌝ }
-{
-    let mut place = first;
-    let mut k: usize = 0;
-    while k < count {
-        let row = image::row_at(table, start + 8 * k);
-        let stored = row.stored as usize;
-        show_sector(row, buffer::part(bytes, place, stored));
-        place += stored;
-        k += 1;
-    }
-    place
-}
-
-// The disk, by the layout of docs/STORE.md.
-fn show_tracks(table: &[u8], bytes: &[u8]) {
-    let mut left = image::byte(table, 0);
-    let mut at: usize = 1;
-    let mut place: usize = 0;
-    while 0 < left {
-        if ROWS_END <= at {
-            return;
-        }
-        let count = image::byte(table, at + 5);
-        show_track(table, at);
-        place = show_sectors(table, bytes, at + 6, count, place);
-        at += 6 + 8 * count;
-        left -= 1;
-    }
-}
-
 fn show_geometry(table: &[u8], bytes: &[u8]) {
     match disk::geometry(table, bytes) {
-        disk::Geometry::Refused(why) => refused(why),
+        disk::Geometry::Refused(why) => listing::refused(why),
         disk::Geometry::Of(c0, c1) => {
-            put(b"geometry");
-            field(c0 as u64);
-            field(c1 as u64);
-            put(b"\n");
+            listing::put(b"geometry");
+            listing::field(c0 as u64);
+            listing::field(c1 as u64);
+            listing::put(b"\n");
         }
     }
 }
 
 // What is found at an address.
 fn ask(table: &[u8], bytes: &[u8], side: u8, cylinder: u8, id: SectorId) {
-    put(b"at");
-    field(side as u64);
-    field(cylinder as u64);
-    show_id(id);
+    listing::put(b"at");
+    listing::field(side as u64);
+    listing::field(cylinder as u64);
+    listing::show_id(id);
     match disk::has_sector(table, bytes, side, cylinder, id) {
-        disk::Has::Refused(why) => refused(why),
-        disk::Has::No => put(b" none\n"),
-        disk::Has::Yes => show_content(disk::lookup(table, bytes, side, cylinder, id)),
+        disk::Has::Refused(why) => listing::refused(why),
+        disk::Has::No => listing::put(b" none\n"),
+        disk::Has::Yes => listing::show_content(disk::lookup(table, bytes, side, cylinder, id)),
     }
 }
 
@@ -206,18 +101,8 @@ fn ask_elsewhere(table: &[u8], bytes: &[u8]) {
     ask(table, bytes, 255, 255, last);
 }
 
-fn show_totals(totals: image::Totals) {
-    put(b"disk tracks");
-    field(totals.tracks as u64);
-    put(b" sectors");
-    field(totals.sectors as u64);
-    put(b" bytes");
-    field(totals.bytes as u64);
-    put(b"\n");
-}
-
 fn show_store(table: &[u8], bytes: &[u8]) {
-    show_tracks(table, bytes);
+    listing::show_tracks(table, bytes);
     show_geometry(table, bytes);
     ask_tracks(table, bytes);
     ask_elsewhere(table, bytes);
@@ -226,11 +111,11 @@ fn show_store(table: &[u8], bytes: &[u8]) {
 // Reads an image through and loads it.
 fn show(image: &[u8], table: &mut [u8], bytes: &mut [u8]) {
     match image::survey(image) {
-        image::Surveyed::Refused(why) => refused(why),
+        image::Surveyed::Refused(why) => listing::refused(why),
         image::Surveyed::Good(totals) => {
-            show_totals(totals);
+            listing::show_totals(totals.tracks, totals.sectors, totals.bytes);
             match disk::new(image, table, bytes) {
-                disk::Done::Refused(why) => refused(why),
+                disk::Done::Refused(why) => listing::refused(why),
                 disk::Done::Good => show_store(table, bytes),
             }
         }
@@ -238,9 +123,9 @@ fn show(image: &[u8], table: &mut [u8], bytes: &mut [u8]) {
 }
 
 fn show_fresh(table: &mut [u8], bytes: &mut [u8]) {
-    put(b"fresh\n");
+    listing::put(b"fresh\n");
     match disk::new_formatted(table, bytes) {
-        disk::Done::Refused(why) => refused(why),
+        disk::Done::Refused(why) => listing::refused(why),
         disk::Done::Good => show_store(table, bytes),
     }
 }
@@ -250,45 +135,19 @@ fn broken() -> bool {
     false
 }
 
-// The number in four bytes.
-fn number(four: &[u8]) -> usize {
-    match image::read_u32(four, 0) {
-        image::Read::Refused(_) => 0,
-        image::Read::Number(n) => n as usize,
-    }
-}
-
-// Reads n bytes to the front of a buffer; no where the input ends first.
-fn take(buf: &mut [u8], n: usize) -> bool {
-    if buf.len() < n {
-        return false;
-    }
-    io::read_full(STDIN_FILENO, &mut buf[..n]) == n
-}
-
 // Reads one record and shows its image; no where the list ends.
 fn replay(name: &mut [u8], image: &mut [u8], table: &mut [u8], bytes: &mut [u8]) -> bool {
-    let mut small = [0u8; 4];
-    let four: &mut [u8] = &mut small;
-    if !take(four, 1) {
-        return false;
+    match listing::take_record(name, image) {
+        listing::Record::End => false,
+        listing::Record::Broken => broken(),
+        listing::Record::Whole { letters, len } => {
+            listing::put(b"image ");
+            listing::put(buffer::part(name, 0, letters));
+            listing::put(b"\n");
+            show(buffer::part(image, 0, len), table, bytes);
+            true
+        }
     }
-    let n = number(four) % 256;
-    if !take(name, n) {
-        return broken();
-    }
-    if !take(four, 4) {
-        return broken();
-    }
-    let len = number(four);
-    if !take(image, len) {
-        return broken();
-    }
-    put(b"image ");
-    put(buffer::part(name, 0, n));
-    put(b"\n");
-    show(buffer::part(image, 0, len), table, bytes);
-    true
 }
 
 // Replays every record.

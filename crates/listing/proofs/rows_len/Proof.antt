@@ -1,13 +1,13 @@
 use Prim.Native.Nat.{_+_, _-_, _*_, _≤_}
 use borrow.Author.Needs.{needs}
-use Rattle.vectors.proofs.show_sectors.Statement.{statement}
-use Rattle.vectors.proofs.show_sectors.Tie as tie
+use Rattle.listing.proofs.rows_len.Statement.{statement}
+use Rattle.listing.proofs.rows_len.Tie as tie
 
 abbrev Inv-loop : tie.InvT-loop
-Inv-loop table bytes start count first place₀ k₀ place k = (k ≤ count) × (place ≤ first + 65535 * k)
+Inv-loop table start count first total₀ k₀ total k = (k ≤ count) × (total ≤ first + 65535 * k)
 
 abbrev μ-loop : tie.MeasureT-loop
-μ-loop table bytes start count first place₀ k₀ place k = count - k
+μ-loop table start count first total₀ k₀ total k = count - k
 
 loop-holds : tie.Need-loop-holds Inv-loop μ-loop
 loop-holds c = search needs
@@ -21,17 +21,11 @@ add-row-at c = search needs
 row-at-requires : tie.Need-row-at-requires Inv-loop μ-loop
 row-at-requires c κs = search needs
 
-cast-stored : tie.Need-cast-stored Inv-loop μ-loop
-cast-stored c = search needs
+cast-total : tie.Need-cast-total Inv-loop μ-loop
+cast-total c = search needs
 
-part-requires : tie.Need-part-requires Inv-loop μ-loop
-part-requires c κs = search needs
-
-show-sector-requires : tie.Need-show-sector-requires Inv-loop μ-loop
-show-sector-requires c κs = search needs
-
-add-place : tie.Need-add-place Inv-loop μ-loop
-add-place c = search needs
+add-total : tie.Need-add-total Inv-loop μ-loop
+add-total c = search needs
 
 add-k : tie.Need-add-k Inv-loop μ-loop
 add-k c = search needs
@@ -45,8 +39,8 @@ loop-again c = search needs
 returns : tie.Need-returns Inv-loop μ-loop
 returns c = search needs
 
-pub show-sectors-spec : {M : Type 1} → statement M
-show-sectors-spec =
+pub rows-len-spec : {M : Type 1} → statement M
+rows-len-spec =
     tie.close
     (tie.spec
     Inv-loop
@@ -55,10 +49,8 @@ show-sectors-spec =
     mul-row-at
     add-row-at
     row-at-requires
-    cast-stored
-    part-requires
-    show-sector-requires
-    add-place
+    cast-total
+    add-total
     add-k
     loop-less
     loop-again

@@ -1,0 +1,70 @@
+//! The capacities of document 01. The Rust has none.
+
+use std::fmt;
+
+use raze::disk::{Disk, Track};
+
+const MOST_TRACKS: usize = 204;
+const MOST_SECTORS: usize = 2_048;
+const MOST_BYTES: usize = 1_048_576;
+const MOST_TRANSFER: usize = 65_536;
+
+/// How much a disk holds.
+pub struct Totals {
+    pub tracks: usize,
+    pub sectors: usize,
+    pub bytes: usize,
+}
+
+impl Totals {
+    /// What the disk holds.
+    pub fn of(disk: &Disk) -> Totals {
+        Totals::of_tracks(disk.tracks())
+    }
+
+    /// What a disk of these tracks holds.
+    pub fn of_tracks<'a>(tracks: impl IntoIterator<Item = &'a Track>) -> Totals {
+        let mut totals = Totals {
+            tracks: 0,
+            sectors: 0,
+            bytes: 0,
+        };
+        for track in tracks {
+            let lengths = track.sectors().iter().map(|sector| sector.data.len());
+            totals.tracks += 1;
+            totals.sectors += track.sectors().len();
+            totals.bytes += lengths.sum::<usize>();
+        }
+        totals
+    }
+
+    /// The refusal number of document 01 for a disk beyond its capacities.
+    pub fn refusal(&self) -> Option<u8> {
+        if self.tracks > MOST_TRACKS {
+            Some(6)
+        } else if self.sectors > MOST_SECTORS {
+            Some(7)
+        } else if self.bytes > MOST_BYTES {
+            Some(8)
+        } else {
+            None
+        }
+    }
+}
+
+impl fmt::Display for Totals {
+    fn fmt(&self, f: &mut fmt::Formatter<'_>) -> fmt::Result {
+        let Totals {
+            tracks,
+            sectors,
+            bytes,
+        } = self;
+        write!(f, "disk tracks {tracks} sectors {sectors} bytes {bytes}")
+    }
+}
+
+/// The refusal number of document 01 for a read of so many bytes into a transfer
+/// buffer of this length.
+pub fn transfer_refusal(bytes: usize, length: u32) -> Option<u8> {
+    (bytes > MOST_TRANSFER.min(length as usize)).then_some(9)
+}
