@@ -89,10 +89,16 @@ copy-sector-requires c κs =
     simp (length-take, length-drop) (omega arith)
 
 add-total : tie.Need-add-total Inv-loop μ-loop
-add-total c = let d = c .before .before .before in omega (arith, room d, whole d, d .before .before .before .before .before .before .before .before .before .before .loop .inv .same, d .before .before .before .before .before .before .before .before .before .before .before .before .before .before .good)
+add-total c =
+    let d = c .before .before .before in
+    let l = d .before .before .before .before .before .before .before .before .before .before in
+    omega (arith, room d, whole d, l .loop .inv .same, l .before .before .before .before .good)
 
 add-k : tie.Need-add-k Inv-loop μ-loop
-add-k c = omega (arith, c .before .before .before .before .before .before .before .before .before .before .before .before .loop-test .taken, c .before .before .before .before .before .before .before .before .before .before .before .before .before .loop .inv .within, c .before .before .before .before .before .before .before .before .before .before .before .before .before .before .before .before .before .pre .numbers)
+add-k c =
+    let t = c .before .before .before .before .before .before .before .before .before .before .before .before in
+    let l = t .before in
+    omega (arith, t .loop-test .taken, l .loop .inv .within, l .before .before .before .before .pre .numbers)
 
 loop-less : tie.Need-loop-less Inv-loop μ-loop
 loop-less c = search needs

@@ -35,29 +35,38 @@ same-length c = search needs
 
 returns-2 : tie.Need-returns-2
 returns-2 c =
-    serve-refused _ _ _ _ _ (c .before .before .before .before .before .before .before .before .before .before .before .before .before .before .pre) _ _ _ (c .before .before .before .before .before .before .before .before .before .before .get-sector .ensures) _ _ _ (c .before .before .before .before .before .before .before .before .at .given .1) _ (c .before .before .before .before .before .greater .ensures) _
-    (c .before .before .before .before .measure .ensures) _ _
+    let m = c .before .before .before .before in
+    let a = m .before .before .before .before in
+    let g = a .before .before in
+    serve-refused _ _ _ _ _ (g .before .before .before .before .pre) _ _ _ (g .get-sector .ensures) _ _ _ (a .at .given .1) _ (m .before .greater .ensures) _ (m .measure .ensures) _ _
     (c .before .before .transfer-room .ensures .0) (c .if1 .taken)
 
 gather-requires : tie.Need-gather-requires
 gather-requires c κs =
-    serve-gathered _ _ _ _ _ (c .before .before .before .before .before .before .before .before .before .before .before .before .before .before .before .pre) _ _ _ (c .before .before .before .before .before .before .before .before .before .before .before .get-sector .ensures) _ _ _ (c .before .before .before .before .before .before .before .before .before .at .given .1) _ (c .before .before .before .before .before .before .greater .ensures) _
-    (c .before .before .before .before .before .measure .ensures)
-    (search needs) (search needs) _ (omega (arith, c .before .if1 .left, c .before .before .before .transfer-room .ensures .1))
+    let m = c .before .before .before .before .before in
+    let a = m .before .before .before .before in
+    let g = a .before .before in
+    serve-gathered _ _ _ _ _ (g .before .before .before .before .pre) _ _ _ (g .get-sector .ensures) _ _ _ (a .at .given .1) _ (m .before .greater .ensures) _ (m .measure .ensures)
+    (omega (arith, m .before .before .struct-known .given)) (omega (arith, g .before .before .before .before .fits)) _ (omega (arith, c .before .if1 .left, c .before .before .before .transfer-room .ensures .1))
 
 row-at-requires : tie.Need-row-at-requires
-row-at-requires c κs = omega (arith, row-inside _ _ _ _ _ (c .before .before .before .before .before .before .before .before .before .before .before .before .before .before .before .before .before .before .pre) _ _ (c .before .before .before .before .before .before .before .before .before .before .before .before .before .before .get-sector .ensures) _ _ _ (c .before .before .before .before .before .before .before .before .before .before .before .before .at .given .1))
+row-at-requires c κs =
+    let a = c .before .before .before .before .before .before .before .before .before .before .before .before in
+    let g = a .before .before in
+    omega (arith, row-inside _ _ _ _ _ (g .before .before .before .before .pre) _ _ (g .get-sector .ensures) _ _ _ (a .at .given .1))
 
 len-requires : tie.Need-len-requires
 len-requires c κs = search needs
 
 mul-t17 : tie.Need-mul-t17
 mul-t17 c =
+    let m = c .before .before .before .before .before .before .before .before .before .before .before .before in
+    let a = m .before .before .before .before in
+    let g = a .before .before in
     omega (
       arith,
-      serve-small _ _ _ _ _ (c .before .before .before .before .before .before .before .before .before .before .before .before .before .before .before .before .before .before .before .before .before .before .pre) _ _ _ (c .before .before .before .before .before .before .before .before .before .before .before .before .before .before .before .before .before .before .get-sector .ensures) _ _ _ (c .before .before .before .before .before .before .before .before .before .before .before .before .before .before .before .before .at .given .1) _ (c .before .before .before .before .before .before .before .before .before .before .before .before .before .greater .ensures) _
-          (c .before .before .before .before .before .before .before .before .before .before .before .before .measure .ensures)
-          (omega (arith, c .before .before .before .before .before .before .before .before .before .before .before .before .before .before .struct-known .given)) (omega (arith, c .before .before .before .before .before .before .before .before .before .before .before .before .before .before .before .before .before .before .before .before .before .before .fits)) _ (c .len .ensures),
+      serve-small _ _ _ _ _ (g .before .before .before .before .pre) _ _ _ (g .get-sector .ensures) _ _ _ (a .at .given .1) _ (m .before .greater .ensures) _ (m .measure .ensures)
+          (omega (arith, m .before .before .struct-known .given)) (omega (arith, g .before .before .before .before .fits)) _ (c .len .ensures),
     )
 
 same-length-2 : tie.Need-same-length-2
@@ -65,9 +74,12 @@ same-length-2 c = search needs
 
 returns-3 : tie.Need-returns-3
 returns-3 c =
-    serve-good _ _ _ _ _ (c .before .before .before .before .before .before .before .before .before .before .before .before .before .before .before .before .before .before .before .before .before .before .pre) _ _ _ (c .before .before .before .before .before .before .before .before .before .before .before .before .before .before .before .before .before .before .get-sector .ensures) _ _ _ (c .before .before .before .before .before .before .before .before .before .before .before .before .before .before .before .before .at .given .1) _ (c .before .before .before .before .before .before .before .before .before .before .before .before .before .greater .ensures) _
-    (c .before .before .before .before .before .before .before .before .before .before .before .before .measure .ensures) _ _
-    (c .before .before .before .before .before .before .before .before .before .before .transfer-room .ensures .0) (c .before .before .before .before .before .before .before .before .if1 .left) _ (c .before .before .before .row-at .ensures) _ (c .len .ensures) _ (c .before .before .before .before .before .before .gather .ensures)
+    let m = c .before .before .before .before .before .before .before .before .before .before .before .before in
+    let a = m .before .before .before .before in
+    let g = a .before .before in
+    let k = c .before .before .before .before .before .before in
+    serve-good _ _ _ _ _ (g .before .before .before .before .pre) _ _ _ (g .get-sector .ensures) _ _ _ (a .at .given .1) _ (m .before .greater .ensures) _ (m .measure .ensures) _ _
+    (k .before .before .before .before .transfer-room .ensures .0) (k .before .before .if1 .left) _ (c .before .before .before .row-at .ensures) _ (c .len .ensures) _ (k .gather .ensures)
 
 pub read-rows-spec : {M : Type 1} → statement M
 read-rows-spec =
