@@ -24,17 +24,9 @@ fn field_at(fields: &[u8], at: usize) -> u8 {
     image::byte(fields, at) as u8
 }
 
-// The number in two bytes.
+// The number in the two bytes at a place, 0 where they are not all there.
 fn word_at(fields: &[u8], at: usize) -> usize {
     match image::read_u16(fields, at) {
-        image::Read::Refused(_) => 0,
-        image::Read::Number(n) => n as usize,
-    }
-}
-
-// The number in four bytes.
-fn long_at(fields: &[u8], at: usize) -> usize {
-    match image::read_u32(fields, at) {
         image::Read::Refused(_) => 0,
         image::Read::Number(n) => n as usize,
     }
@@ -154,7 +146,7 @@ fn read_into(fields: &[u8], table: &[u8], bytes: &[u8], transfer: &mut [u8]) {
 
 // Side, cylinder, ID, eot, length of the transfer buffer, which is no longer than the one at hand.
 fn read(fields: &[u8], table: &[u8], bytes: &[u8], transfer: &mut [u8]) {
-    let room = long_at(fields, 7);
+    let room = listing::number(fields, 7);
     listing::put(b"read");
     show_fields(fields, 7);
     listing::field(room as u64);

@@ -174,9 +174,9 @@ pub fn show_totals(tracks: usize, sectors: usize, bytes: usize) {
     put(b"\n");
 }
 
-// The number in four bytes.
-fn number(four: &[u8]) -> usize {
-    match image::read_u32(four, 0) {
+// The number in the four bytes at a place, 0 where they are not all there.
+pub fn number(bytes: &[u8], at: usize) -> usize {
+    match image::read_u32(bytes, at) {
         image::Read::Refused(_) => 0,
         image::Read::Number(n) => n as usize,
     }
@@ -197,14 +197,14 @@ pub fn take_record(name: &mut [u8], image: &mut [u8]) -> Record {
     if !take(four, 1) {
         return Record::End;
     }
-    let letters = number(four) % 256;
+    let letters = number(four, 0) % 256;
     if !take(name, letters) {
         return Record::Broken;
     }
     if !take(four, 4) {
         return Record::Broken;
     }
-    let len = number(four);
+    let len = number(four, 0);
     if !take(image, len) {
         return Record::Broken;
     }

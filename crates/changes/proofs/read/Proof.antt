@@ -4,8 +4,8 @@ use borrow.Author.Needs.{needs}
 use Rattle.changes.proofs.read.Statement.{statement}
 use Rattle.changes.proofs.read.Tie as tie
 
-long-at-requires : tie.Need-long-at-requires
-long-at-requires c κs = search needs
+number-requires : tie.Need-number-requires
+number-requires c κs = search needs
 
 slice-aggregate-put : tie.Need-slice-aggregate-put
 slice-aggregate-put c = search needs
@@ -47,7 +47,7 @@ pub read-spec : {M : Type 1} → statement M
 read-spec =
     tie.close
     (tie.spec
-    long-at-requires
+    number-requires
     slice-aggregate-put
     put-requires
     show-fields-requires
