@@ -13,8 +13,8 @@ use Rattle.image.specs.Model.{Disk}
 use Rattle.image.specs.declared.refusal.Refusal.the-variants.{BadStore}
 use Rattle.disk.specs.Store.{tableLength, roomOf, sumAt, countAt, countsAt, bytesAt, tracksAt, wellLaid, diskOf}
 use Rattle.disk.specs.Spots.{endAt, surveyOf, Walkable}
-use Rattle.disk.specs.declared.survey.Totals.{Totals}
-use Rattle.disk.specs.declared.survey.Totals.the-variants.{Bad, Good}
+use Rattle.disk.specs.declared.check.Totals.{Totals}
+use Rattle.disk.specs.declared.check.Totals.the-variants.{Bad, Good}
 use Rattle.disk.proofs.Sums.{counts-step, bytes-step, end-step, counts-none, bytes-none, end-none, end-is, track-sum}
 
 -- ---- a conjunction, part by part

@@ -24,7 +24,7 @@ use Rattle.disk.specs.Laying.{trackFor}
 use Rattle.disk.specs.Saving.{lengthBytes, judged, planAt, planOf}
 use Rattle.disk.specs.declared.find.Spot.{Spot}
 use Rattle.disk.specs.declared.find.Spot.the-variants.{Nothing, At}
-use Rattle.disk.specs.declared.survey.Totals.the-variants.{Bad, Good}
+use Rattle.disk.specs.declared.check.Totals.the-variants.{Bad, Good}
 use Rattle.disk.specs.declared.saving.Plan.{Plan}
 use Rattle.disk.specs.declared.saving.Plan.the-variants as plan
 use Rattle.disk.specs.declared.answer.Saved.the-variants as saving

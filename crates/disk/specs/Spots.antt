@@ -22,8 +22,8 @@ use Rattle.disk.specs.declared.answer.Geometry.{Geometry}
 use Rattle.disk.specs.declared.answer.Geometry.the-variants.{Of}
 use Rattle.disk.specs.declared.find.Place.{Place}
 use Rattle.disk.specs.declared.find.Place.the-variants as place
-use Rattle.disk.specs.declared.survey.Totals.{Totals}
-use Rattle.disk.specs.declared.survey.Totals.the-variants.{Bad, Good}
+use Rattle.disk.specs.declared.check.Totals.{Totals}
+use Rattle.disk.specs.declared.check.Totals.the-variants.{Bad, Good}
 
 -- the place after the last row of so many tracks
 unfoldable pub endAt : List ℕ → ℕ → ℕ → ℕ

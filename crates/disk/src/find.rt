@@ -1,10 +1,10 @@
 // The searches: a track by cylinder and side, a sector by all four bytes of its ID, each the first that matches.
 use crate::answer::Geometry;
 use crate::answer::IdFound;
-use crate::survey::Totals;
-use crate::survey::room_of;
-use crate::survey::rows_len;
-use crate::survey::survey;
+use crate::check::Totals;
+use crate::check::room_of;
+use crate::check::rows_len;
+use crate::check::survey;
 use image::Refusal;
 use image::SectorId;
 ghost use mathlib.Core.Path.{_≡_};

@@ -1,7 +1,7 @@
 // Laying tracks into a store: from an image, and formatted.
 use crate::answer::Done;
-use crate::survey::TABLE;
-use crate::survey::room_of;
+use crate::check::TABLE;
+use crate::check::room_of;
 use image::Head;
 use image::Kind;
 use image::Opened;

@@ -1,11 +1,11 @@
 // A disk kept in a lent table and a lent data buffer. docs/STORE.md and `specs/Store.antt` say how it is laid.
 mod answer;
+mod check;
 mod find;
 mod lay;
 mod saving;
 mod serve;
 mod set;
-mod survey;
 
 pub use answer::Done;
 pub use answer::Geometry;

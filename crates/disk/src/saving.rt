@@ -1,10 +1,10 @@
 // A save: the sector at an address takes new bytes, and with them their length.
 use crate::answer::Saved;
+use crate::check::Totals;
+use crate::check::room_of;
+use crate::check::survey;
 use crate::find::Spot;
 use crate::find::find_sector;
-use crate::survey::Totals;
-use crate::survey::room_of;
-use crate::survey::survey;
 use image::Refusal;
 use image::SectorId;
 ghost use mathlib.Core.Path.{_≡_};

@@ -1,14 +1,14 @@
 // Reading sectors into a transfer buffer.
 use crate::answer::Reading;
 use crate::answer::Served;
+use crate::check::Totals;
+use crate::check::room_of;
+use crate::check::survey;
 use crate::find::Spot;
 use crate::find::get_sector;
 use crate::find::get_track;
 use crate::find::greater;
 use crate::find::row_here;
-use crate::survey::Totals;
-use crate::survey::room_of;
-use crate::survey::survey;
 use image::Refusal;
 use image::SectorId;
 ghost use mathlib.Core.Path.{_≡_};

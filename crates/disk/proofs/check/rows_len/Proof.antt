@@ -3,8 +3,8 @@ use native.Mathlib.Omega.{arith}
 use Rattle.image.specs.declared.walk.Row.{Row}
 use Rattle.disk.proofs.Sums.{Summed, sum-start, sum-again, sum-done}
 use borrow.Author.Needs.{needs}
-use Rattle.disk.proofs.survey.rows_len.Statement.{statement}
-use Rattle.disk.proofs.survey.rows_len.Tie as tie
+use Rattle.disk.proofs.check.rows_len.Statement.{statement}
+use Rattle.disk.proofs.check.rows_len.Tie as tie
 
 abbrev Inv-loop : tie.InvT-loop
 Inv-loop table start count sum₀ at₀ left₀ sum at left = Summed table start count sum at left

@@ -1,7 +1,7 @@
 use native.Mathlib.Omega.{arith}
 use Rattle.disk.specs.Store.{roomOf}
-use Rattle.disk.proofs.survey.room_of.Statement.{statement}
-use Rattle.disk.proofs.survey.room_of.Tie as tie
+use Rattle.disk.proofs.check.room_of.Statement.{statement}
+use Rattle.disk.proofs.check.room_of.Tie as tie
 
 returns : tie.Need-returns
 unfolding roomOf

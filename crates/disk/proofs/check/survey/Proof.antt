@@ -1,8 +1,8 @@
 use native.Mathlib.Omega.{arith}
 use Rattle.disk.proofs.Checks.{Surveyed, survey-start, survey-again, bad-length, bad-tracks, bad-more, bad-end, good-end}
 use borrow.Author.Needs.{needs}
-use Rattle.disk.proofs.survey.survey.Statement.{statement}
-use Rattle.disk.proofs.survey.survey.Tie as tie
+use Rattle.disk.proofs.check.survey.Statement.{statement}
+use Rattle.disk.proofs.check.survey.Tie as tie
 
 abbrev Inv-loop : tie.InvT-loop
 Inv-loop table room tracks left₀ at₀ sectors₀ bytes₀ left at sectors bytes = Surveyed table left at sectors bytes
