@@ -71,8 +71,8 @@ fn format(fields: &[u8], table: &mut [u8], bytes: &mut [u8]) {
         filler: field_at(fields, 5),
     };
     match disk::set_track(table, bytes, track) {
-        disk::Done::Refused(why) => refused(why),
-        disk::Done::Good => done(table, bytes),
+        store::Done::Refused(why) => refused(why),
+        store::Done::Good => done(table, bytes),
     }
 }
 
@@ -163,16 +163,16 @@ fn ask_id(fields: &[u8], table: &[u8], bytes: &[u8]) {
     listing::put(b"id");
     show_fields(fields, 2);
     listing::field(idx as u64);
-    match disk::id_by_idx(
+    match store::id_by_idx(
         table,
         bytes,
         field_at(fields, 0),
         field_at(fields, 1),
         idx as u16,
     ) {
-        disk::IdFound::Refused(why) => refused(why),
-        disk::IdFound::Missing => listing::put(b" none\n"),
-        disk::IdFound::Of(id) => {
+        store::IdFound::Refused(why) => refused(why),
+        store::IdFound::Missing => listing::put(b" none\n"),
+        store::IdFound::Of(id) => {
             listing::show_id(id);
             listing::put(b"\n");
         }
@@ -252,11 +252,11 @@ fn operations(table: &mut [u8], bytes: &mut [u8], work: &mut [u8]) -> bool {
 }
 
 // The disk that a script begins with: a fresh one where it has no image.
-fn start(image: &[u8], table: &mut [u8], bytes: &mut [u8]) -> disk::Done {
+fn start(image: &[u8], table: &mut [u8], bytes: &mut [u8]) -> store::Done {
     if image.len() == 0 {
-        return disk::new_formatted(table, bytes);
+        return store::new_formatted(table, bytes);
     }
-    disk::new(image, table, bytes)
+    store::new(image, table, bytes)
 }
 
 // Runs a script of this name on this disk; no where the list ends inside it.
@@ -271,11 +271,11 @@ fn run_script(
     listing::put(name);
     listing::put(b"\n");
     match start(image, table, bytes) {
-        disk::Done::Refused(why) => {
+        store::Done::Refused(why) => {
             listing::refused(why);
             false
         }
-        disk::Done::Good => operations(table, bytes, work),
+        store::Done::Good => operations(table, bytes, work),
     }
 }
 

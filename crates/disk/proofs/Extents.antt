@@ -8,9 +8,9 @@ use lib.ListN.{length, take, drop}
 use Rattle.image.specs.Dsk.{rowAt}
 use Rattle.image.specs.declared.id.SectorId.{SectorId}
 use Rattle.image.proofs.Tracks.{down}
-use Rattle.disk.specs.Find.{Found, nothing, found}
-use Rattle.disk.specs.Search.{numbered}
-use Rattle.disk.specs.Spots.{rowHere}
+use Rattle.store.specs.Find.{Found, nothing, found}
+use Rattle.store.specs.Search.{numbered}
+use Rattle.store.specs.Spots.{rowHere}
 use Rattle.disk.specs.Runs.{rowFirst, more, extentFrom}
 use Rattle.disk.specs.declared.serve.Extent.{Extent}
 

@@ -13,16 +13,16 @@ use Rattle.image.specs.Model.{sizeOf, Sector, total}
 use Rattle.image.specs.Dsk.{rowAt, sectorOf}
 use Rattle.image.specs.declared.id.SectorId.{SectorId}
 use Rattle.image.proofs.Tracks.{down, whole-part}
-use Rattle.disk.specs.Find.{Found, nothing, found, find}
-use Rattle.disk.specs.Search.{isSector, numbered, joined, runFrom}
-use Rattle.disk.specs.Store.{contents, sectorsAt, sumAt}
-use Rattle.disk.specs.Spots.{sectorSpot}
+use Rattle.store.specs.Find.{Found, nothing, found, find}
+use Rattle.store.specs.Search.{isSector, numbered, joined, runFrom}
+use Rattle.store.specs.Store.{contents, sectorsAt, sumAt}
+use Rattle.store.specs.Spots.{sectorSpot}
 use Rattle.disk.specs.Runs.{runOf, Rows, Gathered}
-use Rattle.disk.specs.declared.find.Spot.{Spot}
-use Rattle.disk.specs.declared.find.Spot.the-variants.{Nothing, At}
-use Rattle.disk.proofs.Founds.{rowAtSpot, find-row, row-in}
-use Rattle.disk.proofs.Lays.{lay-on, lay-none}
-use Rattle.disk.proofs.Rounds.{over-front}
+use Rattle.store.specs.declared.find.Spot.{Spot}
+use Rattle.store.specs.declared.find.Spot.the-variants.{Nothing, At}
+use Rattle.store.proofs.Founds.{rowAtSpot, find-row, row-in}
+use Rattle.store.proofs.Lays.{lay-on, lay-none}
+use Rattle.store.proofs.Rounds.{over-front}
 
 run-step : (id : SectorId) (ss : List Sector) (r k : ℕ) → 0 < k
     → runFrom id ss r k ≡ joined (find (isSector (numbered id r)) ss) (runFrom id ss (r + 1) (k - 1))

@@ -11,12 +11,12 @@ use Rattle.image.specs.Bytes.{byteAt, numberAt}
 use Rattle.image.specs.Refusals.{good}
 use Rattle.image.specs.Model.{Sector, Disk, total, sectorCount, byteCount}
 use Rattle.image.specs.Dsk.{rowAt, sectorOf}
-use Rattle.disk.specs.Store.{tableLength, roomOf, rowFor, rowsFor, tracksFor, tableOf, contents, dataOf, sectorsAt, sumAt, countAt, nextAt, trackSum, tracksAt, countsAt, bytesAt, diskOf}
-use Rattle.disk.specs.Spots.{endAt}
-use Rattle.disk.proofs.Sums.{end-is}
-use Rattle.disk.proofs.Checks.{kept, disk-told}
-use Rattle.disk.proofs.Founds.{sectors-count}
-use Rattle.disk.proofs.Rounds.{sizeIn, table-length, data-length, over-front, tracks-before}
+use Rattle.store.specs.Store.{tableLength, roomOf, rowFor, rowsFor, tracksFor, tableOf, contents, dataOf, sectorsAt, sumAt, countAt, nextAt, trackSum, tracksAt, countsAt, bytesAt, diskOf}
+use Rattle.store.specs.Spots.{endAt}
+use Rattle.store.proofs.Sums.{end-is}
+use Rattle.store.proofs.Checks.{kept, disk-told}
+use Rattle.store.proofs.Founds.{sectors-count}
+use Rattle.store.proofs.Rounds.{sizeIn, table-length, data-length, over-front, tracks-before}
 
 -- ---- how much is read
 

@@ -15,22 +15,23 @@ use Rattle.image.specs.Model.{Sector, Track, Disk, byteCount}
 use Rattle.image.specs.Dsk.{rowAt, sectorOf}
 use Rattle.image.specs.declared.id.SectorId.{SectorId}
 use Rattle.image.specs.declared.refusal.Refusal.the-variants.{BadStore, NoRoom}
-use Rattle.disk.specs.Search.{isTrack, isSector}
-use Rattle.disk.specs.Store.{roomOf, rowsFor, tracksFor, tableOf, contents, dataOf, countAt, trackAt, tracksAt, countsAt, bytesAt, wellLaid}
+use Rattle.store.specs.Search.{isTrack, isSector}
+use Rattle.store.specs.Store.{roomOf, rowsFor, tracksFor, tableOf, contents, dataOf, countAt, trackAt, tracksAt, countsAt, bytesAt, wellLaid}
 use Rattle.disk.specs.Change.{change, withContent, savedIn, saved}
-use Rattle.disk.specs.Calls.{outcome, laidAs, saveAt, saveIn, saveOf}
-use Rattle.disk.specs.Spots.{endAt, surveyOf, trackSpot, spotIn, storeSpot}
-use Rattle.disk.specs.Laying.{trackFor}
+use Rattle.store.specs.Calls.{outcome, laidAs}
+use Rattle.disk.specs.Calls.{saveAt, saveIn, saveOf}
+use Rattle.store.specs.Spots.{endAt, surveyOf, trackSpot, spotIn, storeSpot}
+use Rattle.store.specs.Laying.{trackFor}
 use Rattle.disk.specs.Saving.{lengthBytes, judged, planAt, planOf}
-use Rattle.disk.specs.declared.find.Spot.{Spot}
-use Rattle.disk.specs.declared.find.Spot.the-variants.{Nothing, At}
-use Rattle.disk.specs.declared.check.Totals.the-variants.{Bad, Good}
+use Rattle.store.specs.declared.find.Spot.{Spot}
+use Rattle.store.specs.declared.find.Spot.the-variants.{Nothing, At}
+use Rattle.store.specs.declared.check.Totals.the-variants.{Bad, Good}
 use Rattle.disk.specs.declared.saving.Plan.{Plan}
 use Rattle.disk.specs.declared.saving.Plan.the-variants as plan
 use Rattle.disk.specs.declared.answer.Saved.the-variants as saving
-use Rattle.disk.proofs.Checks.{kept, walkable, disk-bad, disk-good}
-use Rattle.disk.proofs.Founds.{rowAtSpot, sector-found, track-in, spot-in}
-use Rattle.disk.proofs.Rounds.{data-length}
+use Rattle.store.proofs.Checks.{kept, walkable, disk-bad, disk-good}
+use Rattle.store.proofs.Founds.{rowAtSpot, sector-found, track-in, spot-in}
+use Rattle.store.proofs.Rounds.{data-length}
 use Rattle.disk.proofs.Holds.{part-whole, bytes-are, is-laid}
 use Rattle.disk.proofs.Cuts.{Replaced, piece-of, behind, replaced-length, over-laid, splice-laid, change-length, First, first-row, first-part, rowOnly, trackPart, all-rows, all-contents, all-tracks, all-data, row-first, track-first}
 

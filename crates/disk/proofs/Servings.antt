@@ -17,19 +17,19 @@ use Rattle.image.specs.declared.id.SectorId.{SectorId}
 use Rattle.image.specs.declared.refusal.Refusal.the-variants.{BadStore, NoTransferRoom}
 use Rattle.image.specs.declared.walk.Row.{Row}
 use Rattle.image.proofs.Sizes.{size-most}
-use Rattle.disk.specs.Find.{Found, nothing, found, findFrom, find}
-use Rattle.disk.specs.Search.{isSector, isTrack, numbered, joined, runFrom, readIn, readAt}
-use Rattle.disk.specs.Store.{contents, sectorsAt, sumAt, countAt, tracksAt, trackAt, diskOf, roomOf, wellLaid, tableLength}
-use Rattle.disk.specs.Spots.{rowHere, sectorSpot, trackSpot, Walkable}
+use Rattle.store.specs.Find.{Found, nothing, found, findFrom, find}
+use Rattle.store.specs.Search.{isSector, isTrack, numbered, joined, runFrom, readIn, readAt}
+use Rattle.store.specs.Store.{contents, sectorsAt, sumAt, countAt, tracksAt, trackAt, diskOf, roomOf, wellLaid, tableLength}
+use Rattle.store.specs.Spots.{rowHere, sectorSpot, trackSpot, Walkable}
 use Rattle.disk.specs.Calls.{transferRoom, filled, readingOf, filledOf, readOf}
 use Rattle.disk.specs.Runs.{rowFirst, more, extentFrom, runOf, Rows, Gathered}
-use Rattle.disk.specs.declared.find.Spot.{Spot}
-use Rattle.disk.specs.declared.find.Spot.the-variants.{Nothing, At}
+use Rattle.store.specs.declared.find.Spot.{Spot}
+use Rattle.store.specs.declared.find.Spot.the-variants.{Nothing, At}
 use Rattle.disk.specs.declared.serve.Extent.{Extent}
 use Rattle.disk.specs.declared.answer.Reading.{Reading}
 use Rattle.disk.specs.declared.answer.Reading.the-variants as reading
-use Rattle.disk.proofs.Founds.{rowAtSpot, trackAtSpot, find-row, find-track, row-in, track-in, track-rows}
-use Rattle.disk.proofs.Checks.{kept, walkable, disk-bad, disk-good}
+use Rattle.store.proofs.Founds.{rowAtSpot, trackAtSpot, find-row, find-track, row-in, track-in, track-rows}
+use Rattle.store.proofs.Checks.{kept, walkable, disk-bad, disk-good}
 use Rattle.disk.proofs.Gathers.{bytes-whole}
 
 -- ---- the run of the model

@@ -1,102 +1,26 @@
 -- What the public calls answer and leave, in terms of the disk that the store holds.
 use Prim.Native.Nat.{ℕ, min}
 use mathlib.Core.List.{List, [], _∷_}
-use mathlib.Core.Bool.{Bool, cond, not}
-use mathlib.Core.Path.{_≡_}
+use mathlib.Core.Bool.{cond}
 use lib.ListN.{length}
-use lib.Dec.{eqb, leb}
+use lib.Dec.{leb}
 use Rattle.buffer.specs.Over.{over}
 use Rattle.image.specs.Refusals.{Result, refused, good, need, after}
-use Rattle.image.specs.Model.{sizeOf, Sector, Track, Disk, total, sectorCount, byteCount}
-use Rattle.image.specs.Dsk.{Dsk, dskOf}
+use Rattle.image.specs.Model.{sizeOf, Sector, Track, Disk, total, byteCount}
 use Rattle.image.specs.declared.id.SectorId.{SectorId}
-use Rattle.image.specs.declared.refusal.Refusal.{Refusal}
-use Rattle.image.specs.declared.refusal.Refusal.the-variants.{BadStore, TooManyTracks, TooManySectors, NoRoom, NoTransferRoom}
-use Rattle.disk.specs.Find.{Found, nothing, found}
-use Rattle.disk.specs.Search.{sectorAt, sectorByIndex, readAt, greatest, isSide0}
-use Rattle.disk.specs.Store.{tableLength, roomOf, tableOf, contents, dataOf, diskOf}
-use Rattle.disk.specs.Fresh.{fresh}
+use Rattle.image.specs.declared.refusal.Refusal.the-variants.{NoRoom, NoTransferRoom}
+use Rattle.store.specs.Find.{Found, nothing, found}
+use Rattle.store.specs.Search.{sectorAt, readAt}
+use Rattle.store.specs.Store.{roomOf, contents, diskOf}
+use Rattle.store.specs.Calls.{Outcome, outcome, laidAs, laid, fitting}
+use Rattle.store.specs.declared.answer.Done.{Done}
 use Rattle.disk.specs.Change.{saved, setTrack}
-use Rattle.disk.specs.declared.answer.Has.{Has}
-use Rattle.disk.specs.declared.answer.Has.the-variants as has
-use Rattle.disk.specs.declared.answer.Geometry.{Geometry}
-use Rattle.disk.specs.declared.answer.Geometry.the-variants as geometry
-use Rattle.disk.specs.declared.answer.IdFound.{IdFound}
-use Rattle.disk.specs.declared.answer.IdFound.the-variants as named
 use Rattle.disk.specs.declared.answer.Saved.{Saved}
 use Rattle.disk.specs.declared.answer.Saved.the-variants as saving
 use Rattle.disk.specs.declared.answer.Reading.{Reading}
 use Rattle.disk.specs.declared.answer.Reading.the-variants as reading
-use Rattle.disk.specs.declared.answer.Done.{Done}
-use Rattle.disk.specs.declared.answer.Done.the-variants as done
-
--- ---- Looking
-
--- the bytes of a sector that was found, none where there is none
-abbrev pub bytesOf : Found Sector → List ℕ
-bytesOf nothing = []
-bytesOf (found i s) = s .content
-
--- lookup by address: empty where none is found or 2 applies
-abbrev pub lookupOf : Result Disk → ℕ → ℕ → SectorId → List ℕ
-lookupOf (refused why) side cylinder id = []
-lookupOf (good d) side cylinder id = bytesOf (sectorAt d side cylinder id)
-
--- whether a sector was found
-abbrev pub foundOf : Found Sector → Has
-foundOf nothing = has.No
-foundOf (found i s) = has.Yes
-
--- `has_sector`: yes, no or 2
-abbrev pub hasOf : Result Disk → ℕ → ℕ → SectorId → Has
-hasOf (refused why) side cylinder id = has.Refused why
-hasOf (good d) side cylinder id = foundOf (sectorAt d side cylinder id)
-
--- `geometry`: the greatest cylinder of side 0 and of all other sides, or 2
-abbrev pub geometryOf : Result Disk → Geometry
-geometryOf (refused why) = geometry.Refused why
-geometryOf (good d) = geometry.Of (greatest isSide0 d) (greatest (λ t. not (isSide0 t)) d)
-
--- the ID of a sector that was found
-abbrev pub namedOf : Found Sector → IdFound
-namedOf nothing = named.Missing
-namedOf (found i s) = named.Of (s .id)
-
--- `id_by_idx`: 2, missing, or the ID of the sector with an index, counted round the track
-abbrev pub idOf : Result Disk → ℕ → ℕ → ℕ → IdFound
-idOf (refused why) side cylinder i = named.Refused why
-idOf (good d) side cylinder i = namedOf (sectorByIndex d side cylinder i)
 
 -- ---- Changing
-
--- what a changing call answers and leaves in the table and in the data buffer
-pub data Outcome (A : Type 0) : Type 0 where
-  outcome : A → List ℕ → List ℕ → Outcome A
-
--- a refusal leaves every byte as it came; a new disk is laid over what was there
-abbrev pub laidAs : {A : Type 0} → (Refusal → A) → A → List ℕ → List ℕ → Result Disk → Outcome A
-laidAs refusal done t b (refused why) = outcome (refusal why) t b
-laidAs refusal done t b (good d) = outcome done (over t 0 (tableOf d)) (over b 0 (dataOf d))
-
-abbrev pub laid : List ℕ → List ℕ → Result Disk → Outcome Done
-laid t b r = laidAs done.Refused done.Good t b r
-
--- the capacities: so many tracks, sectors and bytes in so much room; 6, 7, 8
-unfoldable pub within : {A : Type 0} → ℕ → ℕ → ℕ → ℕ → Result A → Result A
-within tracks sectors bytes room next =
-    need (leb tracks 204) TooManyTracks (need (leb sectors 2048) TooManySectors (need (leb bytes room) NoRoom next))
-
--- a disk that a store with so much room can hold
-abbrev pub fitting : ℕ → Disk → Result Disk
-fitting room d = within (length d) (sectorCount d) (byteCount d) room (good d)
-
--- `Disk::new`: 2 for the table's length, then what the reader meets, then the capacities
-unfoldable pub loadOf : List ℕ → List ℕ → List ℕ → Outcome Done
-loadOf image t b = laid t b (need (eqb (length t) tableLength) BadStore (after (dskOf image) (λ d. fitting (roomOf b) (d .disk))))
-
--- `new_formatted`: 2 for the table's length, then 8
-unfoldable pub freshOf : List ℕ → List ℕ → Outcome Done
-freshOf t b = laid t b (need (eqb (length t) tableLength) BadStore (fitting (roomOf b) fresh))
 
 -- `set_track`: 2, then the capacities of the disk that would result
 unfoldable pub setOf : ℕ → ℕ → Track → List ℕ → List ℕ → Outcome Done

@@ -4,13 +4,13 @@ use mathlib.Core.List.{List}
 use mathlib.Core.Bool.{Bool, cond}
 use Rattle.image.specs.Dsk.{rowAt}
 use Rattle.image.specs.declared.id.SectorId.{SectorId}
-use Rattle.disk.specs.Find.{Found, nothing, found}
-use Rattle.disk.specs.Search.{numbered, runFrom}
-use Rattle.disk.specs.Store.{sectorsAt, sumAt, contents}
+use Rattle.store.specs.Find.{Found, nothing, found}
+use Rattle.store.specs.Search.{numbered, runFrom}
+use Rattle.store.specs.Store.{sectorsAt, sumAt, contents}
 use Rattle.image.specs.Model.{Sector}
 use mathlib.Core.Path.{_≡_}
 use lib.ListN.{length}
-use Rattle.disk.specs.Spots.{rowHere}
+use Rattle.store.specs.Spots.{rowHere}
 use Rattle.disk.specs.declared.serve.Extent.{Extent}
 
 -- the place of the first of so many rows with an ID

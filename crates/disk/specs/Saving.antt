@@ -7,10 +7,10 @@ use Rattle.image.specs.Bytes.{byteAt}
 use Rattle.image.specs.Dsk.{rowAt}
 use Rattle.image.specs.declared.id.SectorId.{SectorId}
 use Rattle.image.specs.declared.refusal.Refusal.the-variants.{BadStore, NoRoom}
-use Rattle.disk.specs.Store.{roomOf, bytesAt, wellLaid}
-use Rattle.disk.specs.Spots.{storeSpot}
-use Rattle.disk.specs.declared.find.Spot.{Spot}
-use Rattle.disk.specs.declared.find.Spot.the-variants.{Nothing, At}
+use Rattle.store.specs.Store.{roomOf, bytesAt, wellLaid}
+use Rattle.store.specs.Spots.{storeSpot}
+use Rattle.store.specs.declared.find.Spot.{Spot}
+use Rattle.store.specs.declared.find.Spot.the-variants.{Nothing, At}
 use Rattle.disk.specs.declared.saving.Plan.{Plan}
 use Rattle.disk.specs.declared.saving.Plan.the-variants as plan
 

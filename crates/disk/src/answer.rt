@@ -1,32 +1,7 @@
 // What the public calls answer.
 use image::Refusal;
-use image::SectorId;
 use image::St1;
 use image::St2;
-
-pub enum Has {
-    Yes,
-    No,
-    Refused(Refusal),
-}
-
-// The greatest cylinder of side 0, and of all other sides.
-pub enum Geometry {
-    Of(u8, u8),
-    Refused(Refusal),
-}
-
-// The ID that a Read ID finds.
-pub enum IdFound {
-    Of(SectorId),
-    Missing,
-    Refused(Refusal),
-}
-
-pub enum Done {
-    Good,
-    Refused(Refusal),
-}
 
 pub enum Saved {
     Good,

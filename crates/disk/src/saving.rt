@@ -1,12 +1,12 @@
 // A save: the sector at an address takes new bytes, and with them their length.
 use crate::answer::Saved;
-use crate::check::Totals;
-use crate::check::room_of;
-use crate::check::survey;
-use crate::find::Spot;
-use crate::find::find_sector;
 use image::Refusal;
 use image::SectorId;
+use store::Spot;
+use store::Totals;
+use store::find_sector;
+use store::room_of;
+use store::survey;
 ghost use mathlib.Core.Path.{_≡_};
 ghost use Prim.Native.Nat.{_+_, _-_, _<_, _≤_};
 ghost use mathlib.Core.List.{_++_};
@@ -14,7 +14,8 @@ ghost use lib.ListN.{length};
 ghost use lib.Seq.{slice};
 ghost use Rattle.buffer.specs.Over.{over};
 ghost use Rattle.image.specs.Dsk.{rowAt};
-ghost use Rattle.disk.specs.Calls.{outcome, saveOf};
+ghost use Rattle.store.specs.Calls.{outcome};
+ghost use Rattle.disk.specs.Calls.{saveOf};
 ghost use Rattle.disk.specs.Saving.{lengthBytes, judged, planOf};
 
 // What a save will do: refuse, find no sector, or put its bytes over those of [from, to), before the others up to `end`.

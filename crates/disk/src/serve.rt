@@ -1,21 +1,21 @@
 // Reading sectors into a transfer buffer.
 use crate::answer::Reading;
 use crate::answer::Served;
-use crate::check::Totals;
-use crate::check::room_of;
-use crate::check::survey;
-use crate::find::Spot;
-use crate::find::get_sector;
-use crate::find::get_track;
-use crate::find::greater;
-use crate::find::row_here;
 use image::Refusal;
 use image::SectorId;
+use store::Spot;
+use store::Totals;
+use store::get_sector;
+use store::get_track;
+use store::greater;
+use store::room_of;
+use store::row_here;
+use store::survey;
 ghost use mathlib.Core.Path.{_≡_};
 ghost use Prim.Native.Nat.{_+_, _-_, _*_, _<_, _≤_, suc};
 ghost use lib.ListN.{length};
 ghost use Rattle.buffer.specs.Over.{over};
-ghost use Rattle.disk.specs.Store.{contents};
+ghost use Rattle.store.specs.Store.{contents};
 ghost use Rattle.disk.specs.Calls.{filled, filledOf, readOf, transferRoom};
 ghost use Rattle.disk.specs.Runs.{extentFrom, Rows, Gathered, runOf};
 

@@ -12,9 +12,9 @@ const RECORDS: u32 = 65536;
 const ROWS_END: usize = 17609;
 
 fn show_geometry(table: &[u8], bytes: &[u8]) {
-    match disk::geometry(table, bytes) {
-        disk::Geometry::Refused(why) => listing::refused(why),
-        disk::Geometry::Of(c0, c1) => {
+    match store::geometry(table, bytes) {
+        store::Geometry::Refused(why) => listing::refused(why),
+        store::Geometry::Of(c0, c1) => {
             listing::put(b"geometry");
             listing::field(c0 as u64);
             listing::field(c1 as u64);
@@ -29,10 +29,10 @@ fn ask(table: &[u8], bytes: &[u8], side: u8, cylinder: u8, id: SectorId) {
     listing::field(side as u64);
     listing::field(cylinder as u64);
     listing::show_id(id);
-    match disk::has_sector(table, bytes, side, cylinder, id) {
-        disk::Has::Refused(why) => listing::refused(why),
-        disk::Has::No => listing::put(b" none\n"),
-        disk::Has::Yes => listing::show_content(disk::lookup(table, bytes, side, cylinder, id)),
+    match store::has_sector(table, bytes, side, cylinder, id) {
+        store::Has::Refused(why) => listing::refused(why),
+        store::Has::No => listing::put(b" none\n"),
+        store::Has::Yes => listing::show_content(store::lookup(table, bytes, side, cylinder, id)),
     }
 }
 
@@ -114,9 +114,9 @@ fn show(image: &[u8], table: &mut [u8], bytes: &mut [u8]) {
         image::Surveyed::Refused(why) => listing::refused(why),
         image::Surveyed::Good(totals) => {
             listing::show_totals(totals.tracks, totals.sectors, totals.bytes);
-            match disk::new(image, table, bytes) {
-                disk::Done::Refused(why) => listing::refused(why),
-                disk::Done::Good => show_store(table, bytes),
+            match store::new(image, table, bytes) {
+                store::Done::Refused(why) => listing::refused(why),
+                store::Done::Good => show_store(table, bytes),
             }
         }
     }
@@ -124,9 +124,9 @@ fn show(image: &[u8], table: &mut [u8], bytes: &mut [u8]) {
 
 fn show_fresh(table: &mut [u8], bytes: &mut [u8]) {
     listing::put(b"fresh\n");
-    match disk::new_formatted(table, bytes) {
-        disk::Done::Refused(why) => listing::refused(why),
-        disk::Done::Good => show_store(table, bytes),
+    match store::new_formatted(table, bytes) {
+        store::Done::Refused(why) => listing::refused(why),
+        store::Done::Good => show_store(table, bytes),
     }
 }
 

@@ -1,9 +1,9 @@
 use mathlib.Core.Path.{_≡_, sym, _∙_}
 use mathlib.Core.Bool.{true}
-use Rattle.disk.specs.Store.{wellLaid, roomOf}
-use Rattle.disk.specs.Spots.{storeSpot}
-use Rattle.disk.specs.declared.find.Spot.the-variants.{At}
-use Rattle.disk.proofs.Checks.{walkable, laid-no, laid-yes}
+use Rattle.store.specs.Store.{wellLaid, roomOf}
+use Rattle.store.specs.Spots.{storeSpot}
+use Rattle.store.specs.declared.find.Spot.the-variants.{At}
+use Rattle.store.proofs.Checks.{walkable, laid-no, laid-yes}
 use Rattle.disk.proofs.Saves.{endOf, survey-total, judge-asks, planned-bad, planned-none, planned-at}
 use borrow.Author.Needs.{needs}
 use Rattle.disk.proofs.saving.prepare.Statement.{statement}

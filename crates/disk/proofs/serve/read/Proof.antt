@@ -3,11 +3,11 @@ use mathlib.Core.Bool.{true}
 use Prim.Native.Nat.{_+_, _≤_}
 use native.Mathlib.Omega.{arith}
 use Rattle.image.specs.Bytes.{byteAt}
-use Rattle.disk.specs.Store.{wellLaid, roomOf}
-use Rattle.disk.specs.Spots.{trackSpot}
-use Rattle.disk.specs.declared.find.Spot.the-variants.{At}
-use Rattle.disk.proofs.Checks.{walkable, laid-yes, laid-no}
-use Rattle.disk.proofs.Indexes.{track-near}
+use Rattle.store.specs.Store.{wellLaid, roomOf}
+use Rattle.store.specs.Spots.{trackSpot}
+use Rattle.store.specs.declared.find.Spot.the-variants.{At}
+use Rattle.store.proofs.Checks.{walkable, laid-yes, laid-no}
+use Rattle.store.proofs.Indexes.{track-near}
 use Rattle.disk.proofs.Servings.{read-bad, read-none, read-rows, read-found}
 use borrow.Author.Needs.{needs}
 use Rattle.disk.proofs.serve.read.Statement.{statement}

@@ -1,0 +1,9 @@
+-- Laws that more than one proof cites, and those that the crates above use.
+pub mod Sums
+pub mod Checks
+pub mod Walks
+pub mod Founds
+pub mod Rounds
+pub mod Lays
+pub mod Loads
+pub mod Indexes

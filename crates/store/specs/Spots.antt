@@ -1,0 +1,109 @@
+-- What the private calls and those that are lent to crate `disk` answer, by place. A reader of the promises need not read this page.
+use Prim.Native.Nat.{ℕ, zero, suc, _+_, _*_, _%_, _≤_, max}
+use mathlib.Core.List.{List}
+use mathlib.Core.Bool.{Bool, _&&_, cond}
+use mathlib.Core.Path.{_≡_}
+use lib.ListN.{length, drop}
+use lib.Dec.{eqb}
+use Rattle.image.specs.Refusals.{Result, refused, good}
+use Rattle.image.specs.Bytes.{byteAt}
+use Rattle.image.specs.Model.{Sector, Disk}
+use Rattle.image.specs.Dsk.{rowAt, sectorOf}
+use Rattle.image.specs.declared.id.SectorId.{SectorId}
+use Rattle.image.specs.declared.refusal.Refusal.{Refusal}
+use Rattle.store.specs.Find.{Found, nothing, found}
+use Rattle.store.specs.Search.{sectorAt}
+use Rattle.store.specs.Store.{tableLength, countAt, nextAt, trackSum, countsAt, bytesAt, wellLaid, diskOf}
+use Rattle.store.specs.declared.find.Spot.{Spot}
+use Rattle.store.specs.declared.find.Spot.the-variants.{Nothing, At}
+use Rattle.store.specs.declared.find.Turned.{Turned}
+use Rattle.store.specs.declared.find.Turned.the-variants.{Empty, Row}
+use Rattle.store.specs.declared.answer.Geometry.{Geometry}
+use Rattle.store.specs.declared.answer.Geometry.the-variants.{Of}
+use Rattle.store.specs.declared.find.Place.{Place}
+use Rattle.store.specs.declared.find.Place.the-variants as place
+use Rattle.store.specs.declared.check.Totals.{Totals}
+use Rattle.store.specs.declared.check.Totals.the-variants.{Bad, Good}
+
+-- the place after the last row of so many tracks
+unfoldable pub endAt : List ℕ → ℕ → ℕ → ℕ
+endAt t at zero = at
+endAt t at (suc left) = endAt t (nextAt t at) left
+
+-- the check of a store: how much it holds, and where its rows end
+unfoldable pub surveyOf : List ℕ → ℕ → Totals
+surveyOf t room =
+    cond (wellLaid t room) (Good (countsAt t 1 (byteAt t 0)) (bytesAt t 1 (byteAt t 0)) (endAt t 1 (byteAt t 0))) Bad
+
+-- whether the track at a place is the one that is looked for
+abbrev pub trackHere : List ℕ → ℕ → ℕ → ℕ → Bool
+trackHere t side cylinder at = eqb (byteAt t at) cylinder && eqb (byteAt t (at + 1)) side
+
+-- the first such track among so many: its index, its place and that of its data
+unfoldable pub trackSpot : List ℕ → ℕ → ℕ → ℕ → ℕ → ℕ → ℕ → Spot
+trackSpot t side cylinder i at place zero = Nothing
+trackSpot t side cylinder i at place (suc left) =
+    cond (trackHere t side cylinder at) (At i at place) (trackSpot t side cylinder (i + 1) (nextAt t at) (place + trackSum t at) left)
+
+-- whether the row at a place has the ID that is looked for
+abbrev pub rowHere : List ℕ → SectorId → ℕ → Bool
+rowHere t id at =
+    eqb (byteAt t at) (id .c) && (eqb (byteAt t (at + 1)) (id .h) && (eqb (byteAt t (at + 2)) (id .r) && eqb (byteAt t (at + 3)) (id .n)))
+
+-- the first such row among so many
+unfoldable pub sectorSpot : List ℕ → SectorId → ℕ → ℕ → ℕ → ℕ → Spot
+sectorSpot t id i at place zero = Nothing
+sectorSpot t id i at place (suc left) =
+    cond (rowHere t id at) (At i at place) (sectorSpot t id (i + 1) (at + 8) (place + rowAt t at .stored) left)
+
+-- the row in a track that was found
+abbrev pub spotIn : List ℕ → SectorId → Spot → Spot
+spotIn t id Nothing = Nothing
+spotIn t id (At i at place) = sectorSpot t id 0 (at + 6) place (countAt t at)
+
+-- the row at an address
+unfoldable pub storeSpot : List ℕ → ℕ → ℕ → SectorId → Spot
+storeSpot t side cylinder id = spotIn t id (trackSpot t side cylinder 0 1 0 (byteAt t 0))
+
+-- the greatest cylinders of side 0 and of the other sides among so many tracks, and those met before
+unfoldable pub cylindersAt : List ℕ → ℕ → ℕ → ℕ → ℕ → Geometry
+cylindersAt t c0 c1 at zero = Of c0 c1
+cylindersAt t c0 c1 at (suc left) =
+    cond (eqb (byteAt t (at + 1)) 0) (cylindersAt t (max c0 (byteAt t at)) c1 (nextAt t at) left)
+    (cylindersAt t c0 (max c1 (byteAt t at)) (nextAt t at) left)
+
+-- the place of a row by its index, counted round the track at a place; none in a track without sectors
+abbrev pub turned : List ℕ → ℕ → ℕ → ℕ → Turned
+turned t at i zero = Empty
+turned t at i (suc n) = Row (i % suc n) (at + 6 + 8 * (i % suc n))
+
+abbrev pub indexSpot : List ℕ → ℕ → ℕ → Turned
+indexSpot t at i = turned t at i (countAt t at)
+
+-- what a walk of the table asks: its rows are within it, and its bytes are few
+pub record Walkable (t : List ℕ) : Type 0 where
+  pub long : length t ≡ tableLength
+  pub ends : endAt t 1 (byteAt t 0) ≤ tableLength
+  pub total : bytesAt t 1 (byteAt t 0) ≤ 1048576
+
+-- what stands at a place of a store
+abbrev pub placed : List ℕ → List ℕ → Place → Result (Found Sector)
+placed t b (place.Refused why) = refused why
+placed t b place.Nothing = good nothing
+placed t b (place.Part index row from to) = good (found index (sectorOf (rowAt t row) (drop from b)))
+
+-- what a search of a store answers
+abbrev pub searched : Result Disk → ℕ → ℕ → SectorId → Result (Found Sector)
+searched (refused why) side cylinder id = refused why
+searched (good d) side cylinder id = good (sectorAt d side cylinder id)
+
+-- that a place stands within the store
+abbrev pub Within : List ℕ → List ℕ → Place → Type 0
+Within t b (place.Refused why) = Unit {0}
+Within t b place.Nothing = Unit {0}
+Within t b (place.Part index row from to) = (row + 8 ≤ length t) × (to ≡ from + rowAt t row .stored) × (to ≤ length b)
+
+-- a place is where the search finds the sector
+pub record Located (t b : List ℕ) (side cylinder : ℕ) (id : SectorId) (r : Place) : Type 0 where
+  pub says : placed t b r ≡ searched (diskOf t b) side cylinder id
+  pub within : Within t b r

@@ -1,0 +1,73 @@
+// A disk kept in a lent table and a lent data buffer: the layout, the check, the searches, load and fresh format.
+// docs/STORE.md and `specs/Store.antt` say how it is laid.
+mod answer;
+mod check;
+mod find;
+mod lay;
+
+pub use answer::Done;
+pub use answer::Geometry;
+pub use answer::Has;
+pub use answer::IdFound;
+use find::Place;
+pub use find::geometry;
+pub use find::id_by_idx;
+use find::locate;
+use image::SectorId;
+pub use lay::new;
+pub use lay::new_formatted;
+ghost use mathlib.Core.Path.{_≡_};
+ghost use Rattle.store.specs.Store.{diskOf};
+ghost use Rattle.store.specs.Calls.{lookupOf, hasOf};
+
+// The names of this block are for crate `disk` only, and may have a `requires`.
+pub use check::Totals;
+pub use check::room_of;
+pub use check::rows_len;
+pub use check::survey;
+pub use find::Spot;
+pub use find::find_sector;
+pub use find::get_sector;
+pub use find::get_track;
+pub use find::greater;
+pub use find::row_here;
+pub use lay::capacity;
+pub use lay::lay_formatted;
+
+// The bytes of the sector at an address, as a part of `bytes`; an empty part where there is none or the store breaks the layout.
+pub fn lookup<'t, 'b>(
+    table: &'t [u8],
+    bytes: &'b [u8],
+    side: u8,
+    cylinder: u8,
+    id: SectorId,
+) -> &'b [u8]
+    ensures { λ r. ⌜ now r ≡ lookupOf (diskOf (now (table .entry)) (now (bytes .entry))) side cylinder id ⌝ }
+{
+    match locate(table, bytes, side, cylinder, id) {
+        Place::Refused(_) => &bytes[0..0],
+        Place::Nothing => &bytes[0..0],
+        Place::Part {
+            index: _,
+            row: _,
+            from,
+            to,
+        } => &bytes[from..to],
+    }
+}
+
+// Whether there is a sector at an address.
+pub fn has_sector(table: &[u8], bytes: &[u8], side: u8, cylinder: u8, id: SectorId) -> Has
+    ensures { λ r. ⌜ r ≡ hasOf (diskOf (now (table .entry)) (now (bytes .entry))) side cylinder id ⌝ }
+{
+    match locate(table, bytes, side, cylinder, id) {
+        Place::Refused(why) => Has::Refused(why),
+        Place::Nothing => Has::No,
+        Place::Part {
+            index: _,
+            row: _,
+            from: _,
+            to: _,
+        } => Has::Yes,
+    }
+}
