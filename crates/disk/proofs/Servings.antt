@@ -19,9 +19,9 @@ use Rattle.image.specs.declared.walk.Row.{Row}
 use Rattle.image.proofs.Sizes.{size-most}
 use Rattle.store.specs.Find.{Found, nothing, found, findFrom, find}
 use Rattle.store.specs.Search.{isSector, isTrack, numbered, joined, runFrom, readIn, readAt}
-use Rattle.store.specs.Store.{contents, sectorsAt, sumAt, countAt, tracksAt, trackAt, diskOf, roomOf, wellLaid, tableLength}
+use Rattle.store.specs.Store.{transferRoom, contents, sectorsAt, sumAt, countAt, tracksAt, trackAt, diskOf, roomOf, wellLaid, tableLength}
 use Rattle.store.specs.Spots.{rowHere, sectorSpot, trackSpot, Walkable}
-use Rattle.disk.specs.Calls.{transferRoom, filled, readingOf, filledOf, readOf}
+use Rattle.disk.specs.Calls.{filled, readingOf, filledOf, readOf}
 use Rattle.disk.specs.Runs.{rowFirst, more, extentFrom, runOf, Rows, Gathered}
 use Rattle.store.specs.declared.find.Spot.{Spot}
 use Rattle.store.specs.declared.find.Spot.the-variants.{Nothing, At}

@@ -1,5 +1,5 @@
 -- What the public calls answer and leave, in terms of the disk that the store holds.
-use Prim.Native.Nat.{ℕ, min}
+use Prim.Native.Nat.{ℕ}
 use mathlib.Core.List.{List, [], _∷_}
 use mathlib.Core.Bool.{cond}
 use lib.ListN.{length}
@@ -11,7 +11,7 @@ use Rattle.image.specs.declared.id.SectorId.{SectorId}
 use Rattle.image.specs.declared.refusal.Refusal.the-variants.{NoRoom, NoTransferRoom}
 use Rattle.store.specs.Find.{Found, nothing, found}
 use Rattle.store.specs.Search.{sectorAt, readAt}
-use Rattle.store.specs.Store.{roomOf, contents, diskOf}
+use Rattle.store.specs.Store.{transferRoom, roomOf, contents, diskOf}
 use Rattle.store.specs.Calls.{Outcome, outcome, laidAs, laid, fitting}
 use Rattle.store.specs.declared.answer.Done.{Done}
 use Rattle.disk.specs.Change.{saved, setTrack}
@@ -45,10 +45,6 @@ unfoldable pub saveOf : List ℕ → List ℕ → ℕ → ℕ → SectorId → L
 saveOf t b side cylinder id new = saveIn t b side cylinder id new (diskOf t b)
 
 -- ---- Reading
-
--- a transfer buffer's room: its length, or 65,536 if that is less
-unfoldable pub transferRoom : List ℕ → ℕ
-transferRoom x = min (length x) 65536
 
 -- what a read answers and leaves in the transfer buffer
 pub data Filled : Type 0 where

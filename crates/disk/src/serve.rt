@@ -11,12 +11,13 @@ use store::greater;
 use store::room_of;
 use store::row_here;
 use store::survey;
+use store::transfer_room;
 ghost use mathlib.Core.Path.{_≡_};
 ghost use Prim.Native.Nat.{_+_, _-_, _*_, _<_, _≤_, suc};
 ghost use lib.ListN.{length};
 ghost use Rattle.buffer.specs.Over.{over};
 ghost use Rattle.store.specs.Store.{contents};
-ghost use Rattle.disk.specs.Calls.{filled, filledOf, readOf, transferRoom};
+ghost use Rattle.disk.specs.Calls.{filled, filledOf, readOf};
 ghost use Rattle.disk.specs.Runs.{extentFrom, Rows, Gathered, runOf};
 
 // How many sectors a read finds, and how many bytes they store.
@@ -104,17 +105,6 @@ fn gather(
                 k += 1;
             }
         }
-    }
-}
-
-// How many bytes a transfer buffer may take.
-fn transfer_room(transfer: &[u8]) -> usize
-    ensures { λ r. ⌜ (r ≡ transferRoom (now (transfer .entry))) × (r ≤ length (now (transfer .entry))) ⌝ }
-{
-    if transfer.len() < 65536 {
-        transfer.len()
-    } else {
-        65536
     }
 }
 

@@ -24,6 +24,10 @@ tableLength = 17609
 unfoldable pub roomOf : List ℕ → ℕ
 roomOf b = min (length b) 1048576
 
+-- a transfer buffer's room: its length, or 65,536 if that is less
+unfoldable pub transferRoom : List ℕ → ℕ
+transferRoom x = min (length x) 65536
+
 -- ---- Laying a disk
 
 -- a sector's row, before what follows it

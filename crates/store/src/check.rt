@@ -1,7 +1,8 @@
 // The capacities, and the check of a store.
 ghost use mathlib.Core.Path.{_≡_};
 ghost use Prim.Native.Nat.{_+_, _*_, _<_, _≤_};
-ghost use Rattle.store.specs.Store.{roomOf, sumAt};
+ghost use lib.ListN.{length};
+ghost use Rattle.store.specs.Store.{roomOf, transferRoom, sumAt};
 ghost use Rattle.store.specs.Spots.{surveyOf};
 
 pub const TABLE: usize = 17609;
@@ -11,6 +12,8 @@ pub const TRACKS: usize = 204;
 pub const SECTORS: usize = 2048;
 
 pub const ROOM: usize = 1048576;
+
+pub const TRANSFER: usize = 65536;
 
 pub enum Totals {
     Bad,
@@ -29,6 +32,17 @@ pub fn room_of(bytes: &[u8]) -> usize
         bytes.len()
     } else {
         ROOM
+    }
+}
+
+// How many bytes a transfer buffer may take.
+pub fn transfer_room(transfer: &[u8]) -> usize
+    ensures { λ r. ⌜ (r ≡ transferRoom (now (transfer .entry))) × (r ≤ length (now (transfer .entry))) ⌝ }
+{
+    if transfer.len() < TRANSFER {
+        transfer.len()
+    } else {
+        TRANSFER
     }
 }
 

@@ -20,11 +20,12 @@ ghost use mathlib.Core.Path.{_≡_};
 ghost use Rattle.store.specs.Store.{diskOf};
 ghost use Rattle.store.specs.Calls.{lookupOf, hasOf};
 
-// The names of this block are for crate `disk` only, and may have a `requires`.
+// The names of this block are for the crates above only, and may have a `requires`.
 pub use check::Totals;
 pub use check::room_of;
 pub use check::rows_len;
 pub use check::survey;
+pub use check::transfer_room;
 pub use find::Spot;
 pub use find::find_sector;
 pub use find::get_sector;

@@ -1,8 +1,8 @@
 use native.Mathlib.Omega.{arith}
-use Rattle.disk.specs.Calls.{transferRoom}
+use Rattle.store.specs.Store.{transferRoom}
 use borrow.Author.Needs.{needs}
-use Rattle.disk.proofs.serve.transfer_room.Statement.{statement}
-use Rattle.disk.proofs.serve.transfer_room.Tie as tie
+use Rattle.store.proofs.check.transfer_room.Statement.{statement}
+use Rattle.store.proofs.check.transfer_room.Tie as tie
 
 returns : tie.Need-returns
 unfolding transferRoom

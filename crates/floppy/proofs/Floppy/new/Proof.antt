@@ -1,0 +1,12 @@
+use mathlib.Core.Path.{_≡_, refl, sym, ap, _∙_}
+use Rattle.floppy.specs.Calls.{newFloppy}
+use borrow.Author.Needs.{needs}
+use Rattle.floppy.proofs.Floppy.new.Statement.{statement}
+use Rattle.floppy.proofs.Floppy.new.Tie as tie
+
+returns : tie.Need-returns
+unfolding newFloppy
+returns c = refl
+
+pub new-spec : {M : Type 1} → statement M
+new-spec = tie.close (tie.spec returns)

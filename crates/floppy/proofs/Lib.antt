@@ -1,0 +1,3 @@
+-- Laws that more than one proof cites, and the theorems about the machine.
+pub mod Effects
+pub mod Sends

@@ -1,0 +1,161 @@
+// The floppy controller uPD765A, over a disk that is kept in a lent table and a lent data buffer. What is read lies in a lent transfer buffer.
+mod command;
+mod write;
+
+use image::SectorId;
+use registers::Byte;
+use registers::Drive;
+use registers::Flag;
+use registers::Pending;
+use registers::Regs;
+use registers::Seek;
+use store::Done;
+ghost use mathlib.Core.Path.{_≡_};
+ghost use Rattle.floppy.specs.Calls.{newFloppy, dataWrite, shownAs, afterAs, wrote, wroteAs};
+ghost use Rattle.registers.specs.Calls.{statusRead, dataRead, motorSet, diskSet, motorOf, trackOf, diskIn};
+
+// A controller: its registers, and beside them the bytes of an unfinished write.
+pub struct Floppy {
+    pub regs: Regs,
+    pub held: [u8; 1024],
+}
+
+// What a port read answers, with the controller then.
+pub struct Shown {
+    pub byte: Byte,
+    pub floppy: Floppy,
+}
+
+// What a sent byte or a change answers, with the controller then.
+pub struct After {
+    pub done: Done,
+    pub floppy: Floppy,
+}
+
+impl Floppy {
+    pub fn new() -> Floppy
+        ensures { λ r. ⌜ r ≡ newFloppy ⌝ }
+    {
+        let id = SectorId {
+            c: 0,
+            h: 0,
+            r: 0,
+            n: 0,
+        };
+        let write = Pending {
+            on: false,
+            c1: 0,
+            id,
+            taken: 0,
+        };
+        let drive = Drive {
+            cylinder: 0,
+            seek: Seek::Idle,
+            disk: false,
+        };
+        let regs = Regs {
+            command: [0; 9],
+            count: 0,
+            reply: [0; 7],
+            place: 0,
+            fill: 0,
+            from: 0,
+            until: 0,
+            lost: 0,
+            motor: false,
+            index: 0,
+            write,
+            drive,
+        };
+        Floppy {
+            regs,
+            held: [0; 1024],
+        }
+    }
+
+    pub fn set_motor(self, motor: bool) -> After
+        ensures { λ r. ⌜ r ≡ afterAs (motorSet motor (self .regs)) (self .held) ⌝ }
+    {
+        let regs = self.regs;
+        let a = regs.set_motor(motor);
+        let done = a.done;
+        let after = a.regs;
+        let held = self.held;
+        let floppy = Floppy { regs: after, held };
+        After { done, floppy }
+    }
+
+    pub fn motor(self) -> Flag
+        ensures { λ r. ⌜ r ≡ motorOf (self .regs) ⌝ }
+    {
+        let regs = self.regs;
+        regs.motor()
+    }
+
+    pub fn current_track(self) -> Byte
+        ensures { λ r. ⌜ r ≡ trackOf (self .regs) ⌝ }
+    {
+        let regs = self.regs;
+        regs.current_track()
+    }
+
+    // Whether a disk is in the drive.
+    pub fn disk(self) -> Flag
+        ensures { λ r. ⌜ r ≡ diskIn (self .regs) ⌝ }
+    {
+        let regs = self.regs;
+        regs.disk()
+    }
+
+    // Another disk is in the drive, the one in the store that is lent from now on, or none. All else is carried over, a write in progress included.
+    pub fn set_disk(self, present: bool) -> After
+        ensures { λ r. ⌜ r ≡ afterAs (diskSet present (self .regs)) (self .held) ⌝ }
+    {
+        let regs = self.regs;
+        let a = regs.set_disk(present);
+        let done = a.done;
+        let after = a.regs;
+        let held = self.held;
+        let floppy = Floppy { regs: after, held };
+        After { done, floppy }
+    }
+
+    // A byte sent to the data port. A refused one is not taken and may be sent again.
+    pub fn write_cmd(self, b: u8, table: &mut [u8], bytes: &mut [u8], transfer: &mut [u8]) -> After
+        ensures { λ r. ⌜ wrote r (now (table .exit)) (now (bytes .exit)) (now (transfer .exit)) ≡ wroteAs (dataWrite (self .regs) b (self .held) (now (table .entry)) (now (bytes .entry)) (now (transfer .entry))) ⌝ }
+    {
+        let regs = self.regs;
+        let mut held = self.held;
+        let a = write::write_cmd(regs, b, &mut held, table, bytes, transfer);
+        let done = a.done;
+        let after = a.regs;
+        let floppy = Floppy { regs: after, held };
+        After { done, floppy }
+    }
+
+    // A read of the data port.
+    pub fn read_cmd(self, transfer: &[u8]) -> Shown
+        ensures { λ r. ⌜ r ≡ shownAs (dataRead (self .regs) (now (transfer .entry))) (self .held) ⌝ }
+    {
+        let regs = self.regs;
+        let a = regs.read_cmd(transfer);
+        let byte = a.answer;
+        let after = a.regs;
+        let held = self.held;
+        let floppy = Floppy { regs: after, held };
+        Shown { byte, floppy }
+    }
+
+    // A read of the main status.
+    pub fn read_status(self) -> Shown
+        ensures { λ r. ⌜ r ≡ shownAs (statusRead (self .regs)) (self .held) ⌝ }
+    {
+        let regs = self.regs;
+        let a = regs.read_status();
+        let byte = a.answer;
+        let after = a.regs;
+        let held = self.held;
+        let floppy = Floppy { regs: after, held };
+        Shown { byte, floppy }
+    }
+}

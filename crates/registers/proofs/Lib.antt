@@ -1,0 +1,3 @@
+-- Laws that more than one proof cites, and those that the crate above uses.
+pub mod Rows
+pub mod Numbers

@@ -1,0 +1,23 @@
+use mathlib.Core.Path.{_≡_, refl, sym, ap, _∙_}
+use borrow.Author.Tests.{eq-eqb, ne-eqb, lt-ltb, le-ltb, le-leb, lt-leb, not-true, not-false}
+use borrow.Author.Needs.{needs}
+use Rattle.registers.proofs.regs.Pending.wrong.Statement.{statement}
+use Rattle.registers.proofs.regs.Pending.wrong.Tie as tie
+
+returns : tie.Need-returns
+returns c = simp (not-true (c .before .before .args .self .on) (c .if1 .taken))
+
+len-requires : tie.Need-len-requires
+len-requires c κs = search needs
+
+cast-if2 : tie.Need-cast-if2
+cast-if2 c = search needs
+
+returns-2 : tie.Need-returns-2
+returns-2 c = simp (not-false (c .before .before .before .before .before .before .args .self .on) (c .before .before .before .before .if1 .left), sym (c .before .before .len .ensures), le-leb _ _ (c .if2 .taken))
+
+returns-3 : tie.Need-returns-3
+returns-3 c = simp (not-false (c .before .before .before .before .before .before .before .args .self .on) (c .before .before .before .before .before .if1 .left), sym (c .before .before .before .len .ensures), lt-leb _ _ (c .before .if2 .left))
+
+pub wrong-spec : {M : Type 1} → statement M
+wrong-spec = tie.close (tie.spec returns len-requires cast-if2 returns-2 returns-3)

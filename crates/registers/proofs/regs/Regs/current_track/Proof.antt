@@ -1,0 +1,19 @@
+use mathlib.Core.Path.{_≡_, refl, sym, ap, _∙_}
+use Rattle.registers.specs.Calls.{trackOf}
+use borrow.Author.Needs.{needs}
+use Rattle.registers.proofs.regs.Regs.current_track.Statement.{statement}
+use Rattle.registers.proofs.regs.Regs.current_track.Tie as tie
+
+impossible-requires : tie.Need-impossible-requires
+impossible-requires c κs = search needs
+
+returns : tie.Need-returns
+unfolding trackOf
+returns c = simp (sym (c .before .impossible .ensures), c .if1 .taken)
+
+returns-2 : tie.Need-returns-2
+unfolding trackOf
+returns-2 c = simp (sym (c .before .before .impossible .ensures), c .before .if1 .left)
+
+pub current-track-spec : {M : Type 1} → statement M
+current-track-spec = tie.close (tie.spec impossible-requires returns returns-2)

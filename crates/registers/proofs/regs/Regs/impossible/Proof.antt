@@ -1,0 +1,58 @@
+use mathlib.Core.Path.{_≡_, refl, sym, ap, _∙_}
+use borrow.Author.Tests.{eq-eqb, ne-eqb, lt-ltb, le-ltb, le-leb, lt-leb, not-true, not-false}
+use Rattle.registers.specs.Table.{bytesFor}
+use Rattle.registers.specs.View.{impossible}
+use borrow.Author.Needs.{needs}
+use Rattle.registers.proofs.regs.Regs.impossible.Statement.{statement}
+use Rattle.registers.proofs.regs.Regs.impossible.Tie as tie
+
+returns : tie.Need-returns
+unfolding impossible
+returns c = simp (lt-ltb _ _ (c .if1 .taken))
+
+returns-2 : tie.Need-returns-2
+unfolding impossible
+returns-2 c = simp (le-ltb _ _ (c .before .before .if1 .left), lt-ltb _ _ (c .if2 .taken))
+
+returns-3 : tie.Need-returns-3
+unfolding impossible
+returns-3 c = simp (le-ltb _ _ (c .before .before .before .before .if1 .left), le-ltb _ _ (c .before .before .if2 .left), lt-ltb _ _ (c .if3 .taken))
+
+array-read-kind-of : tie.Need-array-read-kind-of
+array-read-kind-of c = search needs
+
+kind-of-requires : tie.Need-kind-of-requires
+kind-of-requires c κs = search needs
+
+bytes-for-requires : tie.Need-bytes-for-requires
+bytes-for-requires c κs = search needs
+
+returns-4 : tie.Need-returns-4
+unfolding impossible
+returns-4 c = simp (le-ltb _ _ (c .before .before .before .before .before .before .before .before .before .if1 .left), le-ltb _ _ (c .before .before .before .before .before .before .before .if2 .left), le-ltb _ _ (c .before .before .before .before .before .if3 .left), (sym (c .before .before .bytes-for .ensures ∙ ap bytesFor (c .before .before .before .kind-of .ensures))), le-leb _ _ (c .if4 .taken))
+
+returns-5 : tie.Need-returns-5
+unfolding impossible
+returns-5 c = simp (le-ltb _ _ (c .before .before .before .before .before .before .before .before .before .before .before .if1 .left), le-ltb _ _ (c .before .before .before .before .before .before .before .before .before .if2 .left), le-ltb _ _ (c .before .before .before .before .before .before .before .if3 .left), (sym (c .before .before .before .before .bytes-for .ensures ∙ ap bytesFor (c .before .before .before .before .before .kind-of .ensures))), lt-leb _ _ (c .before .before .if4 .left), lt-ltb _ _ (c .if5 .taken))
+
+wrong-requires : tie.Need-wrong-requires
+wrong-requires c κs = search needs
+
+returns-6 : tie.Need-returns-6
+unfolding impossible
+returns-6 c = c .wrong .ensures ∙ simp (le-ltb _ _ (c .before .before .before .before .before .before .before .before .before .before .before .before .before .if1 .left), le-ltb _ _ (c .before .before .before .before .before .before .before .before .before .before .before .if2 .left), le-ltb _ _ (c .before .before .before .before .before .before .before .before .before .if3 .left), (sym (c .before .before .before .before .before .before .bytes-for .ensures ∙ ap bytesFor (c .before .before .before .before .before .before .before .kind-of .ensures))), lt-leb _ _ (c .before .before .before .before .if4 .left), le-ltb _ _ (c .before .before .if5 .left))
+
+pub impossible-spec : {M : Type 1} → statement M
+impossible-spec =
+    tie.close
+    (tie.spec
+    returns
+    returns-2
+    returns-3
+    array-read-kind-of
+    kind-of-requires
+    bytes-for-requires
+    returns-4
+    returns-5
+    wrong-requires
+    returns-6)

@@ -1,0 +1,19 @@
+use mathlib.Core.Path.{_≡_, refl, sym, ap, _∙_}
+use Rattle.registers.specs.Calls.{motorOf}
+use borrow.Author.Needs.{needs}
+use Rattle.registers.proofs.regs.Regs.motor.Statement.{statement}
+use Rattle.registers.proofs.regs.Regs.motor.Tie as tie
+
+impossible-requires : tie.Need-impossible-requires
+impossible-requires c κs = search needs
+
+returns : tie.Need-returns
+unfolding motorOf
+returns c = simp (sym (c .before .impossible .ensures), c .if1 .taken)
+
+returns-2 : tie.Need-returns-2
+unfolding motorOf
+returns-2 c = simp (sym (c .before .impossible .ensures), c .if1 .left)
+
+pub motor-spec : {M : Type 1} → statement M
+motor-spec = tie.close (tie.spec impossible-requires returns returns-2)

@@ -1,0 +1,269 @@
+// The controller's numbers, without the bytes of an unfinished write, and the changes that they go through.
+use crate::kind::bytes_for;
+use crate::kind::kind_of;
+use image::Refusal;
+use image::SectorId;
+use store::Done;
+ghost use mathlib.Core.Path.{_≡_};
+ghost use mathlib.Core.List.{_∷_, []};
+ghost use Prim.Native.Nat.{_<_};
+ghost use Rattle.registers.specs.Boxes.{Add, Hold, Clear, Turn, Start, Finish, MoveTo};
+ghost use Rattle.registers.specs.View.{impossible, wrongWrite};
+ghost use Rattle.registers.specs.Settle.{replied, sought, withDrive, regsTaken, regsChanged, kept};
+
+// The state of the last seek.
+pub enum Seek {
+    Idle,
+    Running,
+    Done,
+}
+
+// The drive: the cylinder that the head is over, the state of its last seek, and whether a disk is in it.
+pub struct Drive {
+    pub cylinder: u8,
+    pub seek: Seek,
+    pub disk: bool,
+}
+
+// A write in progress: the command's second byte, the sector's ID, and how many bytes are held.
+pub struct Pending {
+    pub on: bool,
+    pub c1: u8,
+    pub id: SectorId,
+    pub taken: u16,
+}
+
+// In the Rust: `cmd` is `command` and `count`; `reply` is `reply`, `place` and `fill`; `data` is the transfer buffer from `from` up to `until`;
+// `lost_read` is `lost`; `read_id_idx` is `index`; `data_in` is `write`; `int_seek_completed` is the drive's `seek`.
+pub struct Regs {
+    pub command: [u8; 9],
+    pub count: u8,
+    pub reply: [u8; 7],
+    pub place: u8,
+    pub fill: u8,
+    pub from: u32,
+    pub until: u32,
+    pub lost: u8,
+    pub motor: bool,
+    pub index: u16,
+    pub write: Pending,
+    pub drive: Drive,
+}
+
+// A byte, or why there is none.
+pub enum Byte {
+    Of(u8),
+    Refused(Refusal),
+}
+
+// A flag, or why there is none.
+pub enum Flag {
+    Of(bool),
+    Refused(Refusal),
+}
+
+// What a port read answers, with the registers then.
+pub struct Told {
+    pub answer: Byte,
+    pub regs: Regs,
+}
+
+// What a sent byte or a change answers, with the registers then.
+pub struct Written {
+    pub done: Done,
+    pub regs: Regs,
+}
+
+impl Pending {
+    // Numbers that no write in progress has.
+    fn wrong(self) -> bool
+        ensures { λ r. ⌜ r ≡ wrongWrite self ⌝ }
+    {
+        if !self.on {
+            return false;
+        }
+        let id = self.id;
+        if id.len() <= self.taken as usize {
+            return true;
+        }
+        self.c1 % 4 != 0
+    }
+}
+
+impl Regs {
+    // Numbers that no controller has.
+    pub fn impossible(self) -> bool
+        ensures { λ r. ⌜ r ≡ impossible self ⌝ }
+    {
+        if self.fill < self.place {
+            return true;
+        }
+        if self.until < self.from {
+            return true;
+        }
+        if 7 < self.fill {
+            return true;
+        }
+        let command = self.command;
+        if bytes_for(kind_of(command[0])) <= self.count {
+            return true;
+        }
+        if 2 < self.lost {
+            return true;
+        }
+        let write = self.write;
+        write.wrong()
+    }
+
+    pub fn done(self) -> Written
+        ensures { λ r. ⌜ r ≡ record { done = Done.Good; regs = self } ⌝ }
+    {
+        Written {
+            done: Done::Good,
+            regs: self,
+        }
+    }
+
+    pub fn refused(self, why: Refusal) -> Written
+        ensures { λ r. ⌜ r ≡ record { done = Done.Refused why; regs = self } ⌝ }
+    {
+        Written {
+            done: Done::Refused(why),
+            regs: self,
+        }
+    }
+
+    // The answer, or where it refuses the refusal with these registers.
+    pub fn kept(self, a: Written) -> Written
+        ensures { λ r. ⌜ r ≡ kept self a ⌝ }
+    {
+        let done = a.done;
+        match done {
+            Done::Good => a,
+            Done::Refused(why) => self.refused(why),
+        }
+    }
+
+    // One more byte of a command.
+    pub fn added(mut self, b: u8) -> Self
+        requires { ⌜ self .count < 9 ⌝ }
+        ensures { λ r. ⌜ r ≡ regsTaken (Add b) self ⌝ }
+    {
+        let n = self.count as usize;
+        let mut command = self.command;
+        command[n] = b;
+        self.command = command;
+        self.count = self.count + 1;
+        self
+    }
+
+    // One more byte of a write is held.
+    pub fn holds(mut self, b: u8) -> Self
+        requires { ⌜ self .write .taken < 1024 ⌝ }
+        ensures { λ r. ⌜ r ≡ regsTaken (Hold b) self ⌝ }
+    {
+        let p = self.write;
+        let id = p.id;
+        let write = Pending {
+            on: p.on,
+            c1: p.c1,
+            id,
+            taken: p.taken + 1,
+        };
+        self.write = write;
+        self
+    }
+
+    pub fn cleared(mut self) -> Self
+        ensures { λ r. ⌜ r ≡ regsChanged Clear self ⌝ }
+    {
+        self.count = 0;
+        self
+    }
+
+    pub fn turned(mut self) -> Self
+        ensures { λ r. ⌜ r ≡ regsChanged Turn self ⌝ }
+    {
+        self.index = std::num::wrapping_add_u16(self.index, 1);
+        self
+    }
+
+    pub fn started(mut self, c1: u8, id: SectorId) -> Self
+        ensures { λ r. ⌜ r ≡ regsChanged (Start c1 id) self ⌝ }
+    {
+        let write = Pending {
+            on: true,
+            c1,
+            id,
+            taken: 0,
+        };
+        self.write = write;
+        self
+    }
+
+    pub fn finished(mut self) -> Self
+        ensures { λ r. ⌜ r ≡ regsChanged Finish self ⌝ }
+    {
+        let p = self.write;
+        let id = p.id;
+        let write = Pending {
+            on: false,
+            c1: p.c1,
+            id,
+            taken: 0,
+        };
+        self.write = write;
+        self
+    }
+
+    // The head over a cylinder, and a seek state.
+    pub fn moved(mut self, cylinder: u8, seek: Seek) -> Self
+        ensures { λ r. ⌜ r ≡ withDrive (record { cylinder = cylinder; seek = seek; disk = self .drive .disk }) self ⌝ }
+    {
+        let d = self.drive;
+        let drive = Drive {
+            cylinder,
+            seek,
+            disk: d.disk,
+        };
+        self.drive = drive;
+        self
+    }
+
+    pub fn reply0(mut self) -> Written
+        ensures { λ r. ⌜ r ≡ record { done = Done.Good; regs = replied [] self } ⌝ }
+    {
+        self.reply = [0, 0, 0, 0, 0, 0, 0];
+        self.place = 0;
+        self.fill = 0;
+        self.done()
+    }
+
+    pub fn reply1(mut self, a: u8) -> Written
+        ensures { λ r. ⌜ r ≡ record { done = Done.Good; regs = replied (a ∷ []) self } ⌝ }
+    {
+        self.reply = [a, 0, 0, 0, 0, 0, 0];
+        self.place = 0;
+        self.fill = 1;
+        self.done()
+    }
+
+    pub fn reply2(mut self, a: u8, b: u8) -> Written
+        ensures { λ r. ⌜ r ≡ record { done = Done.Good; regs = replied (a ∷ b ∷ []) self } ⌝ }
+    {
+        self.reply = [a, b, 0, 0, 0, 0, 0];
+        self.place = 0;
+        self.fill = 2;
+        self.done()
+    }
+
+    // st0, st1, st2 and four more.
+    pub fn reply7(mut self, st0: u8, st1: u8, st2: u8, id: SectorId) -> Written
+        ensures { λ r. ⌜ r ≡ record { done = Done.Good; regs = replied (st0 ∷ st1 ∷ st2 ∷ id .c ∷ id .h ∷ id .r ∷ id .n ∷ []) self } ⌝ }
+    {
+        self.reply = [st0, st1, st2, id.c, id.h, id.r, id.n];
+        self.place = 0;
+        self.fill = 7;
+        self.done()
+    }
+}
