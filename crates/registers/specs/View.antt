@@ -1,9 +1,10 @@
 -- The controller's numbers and the lent buffers, seen as boxes; and the numbers that no controller has.
-use Prim.Native.Nat.{ℕ, _+_, _-_, _%_}
+use Prim.Native.Nat.{ℕ, _%_}
 use mathlib.Core.Bool.{Bool, true, false, not, _||_, _&&_}
 use mathlib.Core.List.{List, [], _∷_}
 use mathlib.Core.Option.{Option, none, some}
-use lib.ListN.{length, getD, take, drop}
+use lib.ListN.{length, getD, take}
+use lib.Seq.{slice}
 use lib.Dec.{eqb, ltb, leb}
 use Rattle.image.specs.Refusals.{Result, refused, good}
 use Rattle.image.specs.Model.{sizeOf, Disk}
@@ -45,8 +46,8 @@ insideOf r h slot = record {
 unfoldable pub frontOf : Regs → List ℕ → Front
 frontOf r x = record {
   seek = r .drive .seek;
-  reply = take (r .fill - r .place) (drop (r .place) (r .reply));
-  unread = take (r .until - r .from) (drop (r .from) x);
+  reply = slice (r .place) (r .fill) (r .reply);
+  unread = slice (r .from) (r .until) x;
   lost = r .lost;
 }
 
