@@ -9,3 +9,4 @@ pub mod Sorts
 pub mod Blocks
 pub mod Turns
 pub mod Puts
+pub mod Accepts
