@@ -2,3 +2,4 @@
 pub mod Effects
 pub mod Sends
 pub mod Seen
+pub mod Sessions

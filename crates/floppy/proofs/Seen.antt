@@ -32,7 +32,7 @@ use Rattle.registers.specs.declared.regs.Pending.{Pending}
 use Rattle.registers.specs.declared.regs.Written.{Written}
 use Rattle.registers.specs.declared.regs.Seek.{Seek}
 use Rattle.registers.specs.declared.regs.Seek.the-variants.{Idle, Running, Done}
-use Rattle.registers.specs.Boxes.{Setting, Slot, Empty, Holds, Writing, Inside, Front, World, Taking, Add, Hold, Change, Clear, MoveTo, Turn, Start, Finish, Shift, Stay, Reply, ReplyIfNone, Seeking, Interrupt, Serve, Effect, Sent, withCommand, withWrite, withSlot, holding, taken, changed, allChanged, putIn, withReply, ifNone, interrupted, shifted}
+use Rattle.registers.specs.Boxes.{Setting, Slot, Empty, Holds, Writing, Inside, Front, World, newWorld, Taking, Add, Hold, Change, Clear, MoveTo, Turn, Start, Finish, Shift, Stay, Reply, ReplyIfNone, Seeking, Interrupt, Serve, Effect, Sent, withCommand, withWrite, withSlot, holding, taken, changed, allChanged, putIn, withReply, ifNone, interrupted, shifted}
 use Rattle.registers.specs.Table.{kindOf, bytesFor}
 use Rattle.registers.specs.View.{settingOf, slotIf, slotOf, writingIf, insideOf, frontOf, worldOf, impossibleIn}
 use Rattle.registers.specs.Settle.{replied, regsTaken, heldTaken, regsChanged, regsAll, ifUnread, interruptedBy, regsShifted, regsOf}
@@ -40,7 +40,7 @@ use Rattle.registers.proofs.Numbers.{possible, possible-in, count-few, taken-fe
 use Rattle.floppy.specs.Commands.{byte, idOf, driveOf, headOf, inDrive, named, puts, seekIf, readData, writeData, readId, saveAt, written, formatTrack, obeyed, writeReply, u}
 use Rattle.floppy.specs.Machine.{sends, clearing, commandIf, commandByte, dataIf, dataByte, sent, done, writePort}
 use Rattle.floppy.specs.Lent.{tableWith, dataWith, transferWith, Left, left, leftOf}
-use Rattle.floppy.specs.Calls.{sentTo, dataWrite}
+use Rattle.floppy.specs.Calls.{sentTo, dataWrite, newFloppy}
 use Rattle.floppy.proofs.Sends.{Unput, quiet-seek, quiet-id, quiet-write, unput-read, sent-right, sent-data, sent-command}
 
 -- ---- inside: taking a byte, and changes
@@ -337,3 +337,8 @@ module _ (r : Regs) (b : ℕ) (h t d x : List ℕ) (ok : impossibleIn x r ≡ fa
 pub write-refused : (r : Regs) (b : ℕ) (h t d x : List ℕ) → impossibleIn x r ≡ true → dataWrite r b h t d x ≡ left (record { done = finished.Refused BadController; regs = r }) h t d x
 unfolding dataWrite sentTo leftOf
 write-refused r b h t d x e = rw e
+
+-- a new controller, seen: every box as in a new world
+pub new-seen : (t d x : List ℕ) → worldOf (newFloppy .regs) (newFloppy .held) t d x ≡ newWorld
+unfolding newFloppy newWorld insideOf frontOf
+new-seen t d x = refl
