@@ -36,7 +36,7 @@ use Rattle.registers.specs.declared.regs.Written.{Written}
 use Rattle.registers.specs.Boxes.{Slot, Empty, Holds, Change, Turn, Start, Finish, Shift, Stay, Reply, Serve, Effect}
 use Rattle.floppy.specs.Commands.{byte, idOf, sizesOf, u, headOf, named, inDrive, ready, does, puts, missing, seven, senseDrive, readReply, servedAs, readData, startAt, writeData, writeReply, saveAt, written, idAt, readId, formatTrack}
 use Rattle.registers.specs.Settle.{replied, withUnread, regsChanged, regsAll, regsShifted, regsOf}
-use Rattle.floppy.specs.Lent.{tableAfter, dataAfter, transferAfter}
+use Rattle.floppy.specs.Lent.{Stored, tableAfter, dataAfter, transferAfter}
 use Rattle.registers.specs.View.{slotIf, slotOf}
 
 -- ---- ready and not
@@ -243,10 +243,6 @@ read-short t b side cylinder eot n x x′ a a′ f e = subst Short (sym (ap answ
 -- ---- Format
 
 module _ (r : Regs) (t b : List ℕ) where
-  -- an answer, a table and data that are the effect's
-  abbrev pub Stored : Result Effect → Written → List ℕ → List ℕ → Type 0
-  Stored e a t′ b′ = (a ≡ regsOf e r) × ((t′ ≡ tableAfter e t) × (b′ ≡ dataAfter e b))
-
   module _ (unit n count gap filler : ℕ) where
     abbrev pub FormatAs : Slot → Result Effect
     FormatAs s = formatTrack (roomOf b) unit n count gap filler (r .drive .cylinder) s
@@ -260,7 +256,7 @@ module _ (r : Regs) (t b : List ℕ) where
     Reply7 new = puts [] new (u unit ∷ 0 ∷ 0 ∷ 0 ∷ 0 ∷ 0 ∷ n ∷ [])
 
     abbrev Formatted : Result Effect → looks.Outcome Done → Type 0
-    Formatted e (looks.outcome a t′ b′) = Stored e (formatRegs a) t′ b′
+    Formatted e (looks.outcome a t′ b′) = Stored e r t b (formatRegs a) t′ b′
 
     laid-formatted : (new : Result Disk) → Formatted (after new Reply7) (looks.laid t b new)
     unfolding regsOf regsAll regsShifted
@@ -273,14 +269,14 @@ module _ (r : Regs) (t b : List ℕ) where
 
     pub format-ran : (a a′ : Done) (t′ b′ : List ℕ) → true ≡ (eqb (unit % 4) 0 && r .drive .disk) → a ≡ a′
         → looks.outcome a t′ b′ ≡ calls.setOf (headOf unit) (r .drive .cylinder) (formatted (r .drive .cylinder) (headOf unit) n count gap filler) t b
-        → Stored (FormatAs (named unit (slotOf r t b))) (formatRegs a′) t′ b′
+        → Stored (FormatAs (named unit (slotOf r t b))) r t b (formatRegs a′) t′ b′
     unfolding formatTrack calls.setOf
     format-ran a a′ t′ b′ e f q =
         rw (sym (slot-holds r unit t b e), sym f)
         (subst (Formatted (FormatAs (Holds (diskOf t b)))) (sym q)
         (disk-formatted (diskOf t b) (λ d. looks.fitting (roomOf b) (setTrack (headOf unit) (r .drive .cylinder) (formatted (r .drive .cylinder) (headOf unit) n count gap filler) d))))
 
-    pub format-none : false ≡ (eqb (unit % 4) 0 && r .drive .disk) → Stored (FormatAs (named unit (slotOf r t b))) (regsOf (FormatAs Empty) r) t b
+    pub format-none : false ≡ (eqb (unit % 4) 0 && r .drive .disk) → Stored (FormatAs (named unit (slotOf r t b))) r t b (regsOf (FormatAs Empty) r) t b
     unfolding formatTrack
     format-none e = rw (sym (slot-empty r unit t b e)) (refl, (refl, refl))
 
@@ -300,7 +296,7 @@ module _ (r : Regs) (t b : List ℕ) where
     saveRegs saving.Good = Told
 
     abbrev Saving : Result Effect → looks.Outcome Saved → Type 0
-    Saving e (looks.outcome a t′ b′) = Stored e (saveRegs a) t′ b′
+    Saving e (looks.outcome a t′ b′) = Stored e r t b (saveRegs a) t′ b′
 
     put-saved : (v : Bool) (d : Disk) → Saving (need v NoRoom (puts (Finish ∷ []) d (writeReply unit n))) (looks.laidAs saving.Refused saving.Good t b (need true NoRoom (need v NoRoom (good d))))
     unfolding regsOf regsAll regsShifted
@@ -329,12 +325,12 @@ module _ (r : Regs) (t b : List ℕ) where
 
     pub finish-ran : (a a′ : Saved) (t′ b′ : List ℕ) → r .drive .disk ≡ true → a ≡ a′
         → looks.outcome a t′ b′ ≡ calls.saveOf t b (headOf unit) (r .drive .cylinder) n new
-        → Stored (WrittenAs (slotOf r t b)) (saveRegs a′) t′ b′
+        → Stored (WrittenAs (slotOf r t b)) r t b (saveRegs a′) t′ b′
     unfolding written calls.saveOf
     finish-ran a a′ t′ b′ e f q =
         rw (sym (flag-holds (r .drive .disk) (diskOf t b) e), sym f)
         (subst (Saving (WrittenAs (Holds (diskOf t b)))) (sym q) (disk-saved (diskOf t b)))
 
-    pub finish-none : r .drive .disk ≡ false → Stored (WrittenAs (slotOf r t b)) Told t b
+    pub finish-none : r .drive .disk ≡ false → Stored (WrittenAs (slotOf r t b)) r t b Told t b
     unfolding written
     finish-none e = rw (sym (flag-empty (r .drive .disk) (diskOf t b) e)) (unfold regsOf regsAll regsShifted in (refl, (refl, refl)))

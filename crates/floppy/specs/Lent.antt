@@ -1,4 +1,5 @@
 -- What a sent byte does to the bytes that are lent: the held bytes, the table, the data and the transfer buffer. A refusal leaves them as they came.
+use mathlib.Core.Path.{_≡_}
 use Prim.Native.Nat.{ℕ}
 use mathlib.Core.List.{List}
 use mathlib.Core.Option.{Option, none, some}
@@ -41,6 +42,13 @@ dataAfter (good e) b = dataWith (e .put) b
 abbrev pub transferAfter : Result Effect → List ℕ → List ℕ
 transferAfter (refused why) x = x
 transferAfter (good e) x = transferWith (e .shift) x
+
+-- an answer and a transfer buffer, and an answer and a store, that are an effect's
+abbrev pub Filled : Result Effect → Regs → List ℕ → Written → List ℕ → Type 0
+Filled e r x a x′ = (a ≡ regsOf e r) × (x′ ≡ transferAfter e x)
+
+abbrev pub Stored : Result Effect → Regs → List ℕ → List ℕ → Written → List ℕ → List ℕ → Type 0
+Stored e r t b a t′ b′ = (a ≡ regsOf e r) × ((t′ ≡ tableAfter e t) × (b′ ≡ dataAfter e b))
 
 -- what a command, or the end of a write, leaves
 pub data Ran : Type 0 where

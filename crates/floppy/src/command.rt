@@ -28,7 +28,7 @@ ghost use Rattle.floppy.specs.Commands.{idOf, named, missing, notReady, 
 ghost use Rattle.floppy.specs.Machine.{commandByte};
 ghost use Rattle.registers.specs.View.{settingOf, slotOf};
 ghost use Rattle.registers.specs.Settle.{replied, withUnread, regsShifted, regsOf};
-ghost use Rattle.floppy.specs.Lent.{tableAfter, dataAfter, transferAfter, ran, ranOf, left, leftOf};
+ghost use Rattle.floppy.specs.Lent.{Filled, Stored, ran, ranOf, left, leftOf};
 
 // The sector that bytes 2 to 5 of a command name.
 fn sector_id(command: [u8; 9]) -> SectorId
@@ -224,7 +224,7 @@ fn read_data(
     bytes: &[u8],
     transfer: &mut [u8],
 ) -> Written
-    ensures { λ r. ⌜ (r ≡ regsOf (readData (transferRoom (now (transfer .entry))) deleted command (regs .drive .cylinder) (named (getD command 1 0) (slotOf regs (now (table .entry)) (now (bytes .entry))))) regs) × (now (transfer .exit) ≡ transferAfter (readData (transferRoom (now (transfer .entry))) deleted command (regs .drive .cylinder) (named (getD command 1 0) (slotOf regs (now (table .entry)) (now (bytes .entry))))) (now (transfer .entry))) ⌝ }
+    ensures { λ r. ⌜ Filled (readData (transferRoom (now (transfer .entry))) deleted command (regs .drive .cylinder) (named (getD command 1 0) (slotOf regs (now (table .entry)) (now (bytes .entry))))) regs (now (transfer .entry)) r (now (transfer .exit)) ⌝ }
 {
     let c1 = command[1];
     let id = sector_id(command);
@@ -241,7 +241,7 @@ fn read_data(
 }
 
 fn format_track(regs: Regs, command: [u8; 9], table: &mut [u8], bytes: &mut [u8]) -> Written
-    ensures { λ r. ⌜ (r ≡ regsOf (formatTrack (roomOf (now (bytes .entry))) (getD command 1 0) (getD command 2 0) (getD command 3 0) (getD command 4 0) (getD command 5 0) (regs .drive .cylinder) (named (getD command 1 0) (slotOf regs (now (table .entry)) (now (bytes .entry))))) regs) × ((now (table .exit) ≡ tableAfter (formatTrack (roomOf (now (bytes .entry))) (getD command 1 0) (getD command 2 0) (getD command 3 0) (getD command 4 0) (getD command 5 0) (regs .drive .cylinder) (named (getD command 1 0) (slotOf regs (now (table .entry)) (now (bytes .entry))))) (now (table .entry))) × (now (bytes .exit) ≡ dataAfter (formatTrack (roomOf (now (bytes .entry))) (getD command 1 0) (getD command 2 0) (getD command 3 0) (getD command 4 0) (getD command 5 0) (regs .drive .cylinder) (named (getD command 1 0) (slotOf regs (now (table .entry)) (now (bytes .entry))))) (now (bytes .entry)))) ⌝ }
+    ensures { λ r. ⌜ Stored (formatTrack (roomOf (now (bytes .entry))) (getD command 1 0) (getD command 2 0) (getD command 3 0) (getD command 4 0) (getD command 5 0) (regs .drive .cylinder) (named (getD command 1 0) (slotOf regs (now (table .entry)) (now (bytes .entry))))) regs (now (table .entry)) (now (bytes .entry)) r (now (table .exit)) (now (bytes .exit)) ⌝ }
 {
     let c1 = command[1];
     let n = command[2];

@@ -17,13 +17,13 @@ ghost use Rattle.registers.specs.View.{settingOf, slotOf};
 ghost use Rattle.registers.specs.Settle.{regsOf};
 ghost use Rattle.floppy.specs.Commands.{written};
 ghost use Rattle.floppy.specs.Machine.{dataByte};
-ghost use Rattle.floppy.specs.Lent.{tableAfter, dataAfter, left, leftOf};
+ghost use Rattle.floppy.specs.Lent.{Stored, left, leftOf};
 ghost use Rattle.floppy.specs.Calls.{dataWrite};
 
 // The last byte of a write is held: the reply, and the sector in the store.
 fn finish_write(regs: Regs, held: &[u8], table: &mut [u8], bytes: &mut [u8]) -> Written
     requires { ⌜ length (now held) ≤ 1024 ⌝ }
-    ensures { λ r. ⌜ (r ≡ regsOf (written (roomOf (now (bytes .entry))) (regs .write .c1) (regs .write .id) (now (held .entry)) (regs .drive .cylinder) (slotOf regs (now (table .entry)) (now (bytes .entry)))) regs) × ((now (table .exit) ≡ tableAfter (written (roomOf (now (bytes .entry))) (regs .write .c1) (regs .write .id) (now (held .entry)) (regs .drive .cylinder) (slotOf regs (now (table .entry)) (now (bytes .entry)))) (now (table .entry))) × (now (bytes .exit) ≡ dataAfter (written (roomOf (now (bytes .entry))) (regs .write .c1) (regs .write .id) (now (held .entry)) (regs .drive .cylinder) (slotOf regs (now (table .entry)) (now (bytes .entry)))) (now (bytes .entry)))) ⌝ }
+    ensures { λ r. ⌜ Stored (written (roomOf (now (bytes .entry))) (regs .write .c1) (regs .write .id) (now (held .entry)) (regs .drive .cylinder) (slotOf regs (now (table .entry)) (now (bytes .entry)))) regs (now (table .entry)) (now (bytes .entry)) r (now (table .exit)) (now (bytes .exit)) ⌝ }
 {
     let d = regs.drive;
     let p = regs.write;
