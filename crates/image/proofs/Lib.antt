@@ -4,4 +4,3 @@ pub mod Readers
 pub mod Headers
 pub mod Tracks
 pub mod Steps
-pub mod Examples
