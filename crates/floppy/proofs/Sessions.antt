@@ -19,7 +19,7 @@ use Rattle.store.specs.Fresh.{blanksFrom, formatted, freshFrom, fresh}
 use Rattle.store.specs.Calls.{within}
 use Rattle.disk.specs.Change.{change, insert, sortOnto, sorted, setTrack}
 use Rattle.registers.specs.Boxes.{Setting, Slot, Empty, Holds, World, newWorld, taken, changed, allChanged, putIn, interrupted, shifted}
-use Rattle.registers.specs.Table.{rows, kindBy, kindOf}
+use Rattle.registers.specs.Table.{maskRows, rows, kindBy, kindOf}
 use Rattle.registers.specs.Ports.{status, polled, afterStatus, given, readFrom, portByte, afterRead, changeDisk}
 use Rattle.floppy.specs.Commands.{missing, withBit, senseDrive, seekIf, endOf, markOf, readReply, servedAs, readData, formatTrack, obeyed}
 use Rattle.floppy.specs.Machine.{commandIf, commandByte, byteFor, sent, done, writePort}
@@ -103,5 +103,5 @@ table =
 
 -- every row holds
 pub sessions-hold : allHold table ≡ true
-unfolding sameBytes numberAt textAt sizeOf total entries headerOf entryOf tracksFrom dskOf dsk.kindOf findFrom sectorAt runFrom readAt contents blanksFrom formatted freshFrom fresh within change insert sortOnto sorted setTrack newWorld taken changed allChanged putIn interrupted shifted rows kindBy kindOf status polled afterStatus given readFrom portByte afterRead changeDisk missing withBit senseDrive seekIf endOf markOf readReply servedAs readData formatTrack obeyed commandIf commandByte byteFor sent done writePort plays isRefused hasTracks holds allHold send give normal table
+unfolding maskRows sameBytes numberAt textAt sizeOf total entries headerOf entryOf tracksFrom dskOf dsk.kindOf findFrom sectorAt runFrom readAt contents blanksFrom formatted freshFrom fresh within change insert sortOnto sorted setTrack newWorld taken changed allChanged putIn interrupted shifted rows kindBy kindOf status polled afterStatus given readFrom portByte afterRead changeDisk missing withBit senseDrive seekIf endOf markOf readReply servedAs readData formatTrack obeyed commandIf commandByte byteFor sent done writePort plays isRefused hasTracks holds allHold send give normal table
 sessions-hold = refl

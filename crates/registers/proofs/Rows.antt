@@ -7,7 +7,7 @@ use mathlib.Core.Bool.{Bool, true, false, cond, _&&_}
 use mathlib.Core.List.{List, [], _∷_}
 use lib.Dec.{eqb, leb}
 use borrow.Author.Tests.{leb-true, ne-eqb}
-use Rattle.registers.specs.Table.{Row, rows, kindBy, kindOf, bytesFor}
+use Rattle.registers.specs.Table.{Row, maskRows, rows, kindBy, kindOf, bytesFor}
 use Rattle.registers.specs.declared.kind.Kind.{Kind}
 use Rattle.registers.specs.declared.kind.Kind.the-variants.{Specify, SenseDrive, Recalibrate, SenseInterrupt, SeekTo, Version, ReadData, ReadDeleted, WriteData, ReadId, FormatTrack, Unserved, Invalid}
 
@@ -29,11 +29,11 @@ others zero = 0
 others (suc n) = (1 - passing rows n) + others n
 
 one-each : oneEach 256 ≡ true
-unfolding oneEach passing rows
+unfolding oneEach passing rows maskRows
 one-each = refl
 
 pub others-are : others 256 ≡ 187
-unfolding others passing rows
+unfolding others passing rows maskRows
 others-are = refl
 
 and-left : (a b : Bool) → (a && b) ≡ true → a ≡ true
@@ -84,6 +84,18 @@ pub kind-is : (k : ℕ) (c : ℕ) → c < 256 → rowAt k rows .passes c ≡ tru
 unfolding kindOf
 kind-is k c h e = kind-at k rows c (no-overlap c h) e
 
+-- the same of the rows that go by a mask
+mask-overlap : (c : ℕ) → c < 256 → passing maskRows c ≤ 1
+unfolding passing rows
+mask-overlap c h = omega (arith, no-overlap c h)
+
+pub mask-is : (k : ℕ) (c : ℕ) → c < 256 → rowAt k maskRows .passes c ≡ true → rowAt k maskRows .kind ≡ kindBy maskRows c
+mask-is k c h e = kind-at k maskRows c (mask-overlap c h) e
+
+pub kind-masked : (c : ℕ) → (c ≡ 0x03 → ⊥) → (c ≡ 0x04 → ⊥) → (c ≡ 0x07 → ⊥) → (c ≡ 0x0F → ⊥) → (c ≡ 0x08 → ⊥) → kindBy maskRows c ≡ kindOf c
+unfolding kindOf kindBy rows
+kind-masked c h1 h2 h3 h4 h5 = rw (ne-eqb c 0x03 h1, ne-eqb c 0x04 h2, ne-eqb c 0x07 h3, ne-eqb c 0x0F h4, ne-eqb c 0x08 h5)
+
 -- a byte that no row takes
 abbrev NonePass : List Row → ℕ → Type 0
 NonePass [] c = Unit {0}
@@ -94,12 +106,7 @@ unfolding kindBy
 none-pass [] c h = refl
 none-pass (x ∷ xs) c h = rw (h .0) (none-pass xs c (h .1))
 
-pub kind-none : (c : ℕ)
-    → (c ≡ 0x03 → ⊥)
-    → (c ≡ 0x04 → ⊥)
-    → (c ≡ 0x07 → ⊥)
-    → (c ≡ 0x0F → ⊥)
-    → (c ≡ 0x08 → ⊥)
+pub mask-none : (c : ℕ)
     → (c % 32 ≡ 0x10 → ⊥)
     → (c % 32 ≡ 0x06 → ⊥)
     → (c % 32 ≡ 0x0C → ⊥)
@@ -111,9 +118,9 @@ pub kind-none : (c : ℕ)
     → (c % 32 ≡ 0x11 → ⊥)
     → (c % 32 ≡ 0x19 → ⊥)
     → (c % 32 ≡ 0x1D → ⊥)
-    → Invalid ≡ kindOf c
-unfolding kindOf rows
-kind-none c h1 h2 h3 h4 h5 h6 h7 h8 h9 h10 h11 h12 h13 h14 h15 h16 = none-pass rows c (ne-eqb (c) 0x03 h1, (ne-eqb (c) 0x04 h2, (ne-eqb (c) 0x07 h3, (ne-eqb (c) 0x0F h4, (ne-eqb (c) 0x08 h5, (ne-eqb (c % 32) 0x10 h6, (ne-eqb (c % 32) 0x06 h7, (ne-eqb (c % 32) 0x0C h8, (ne-eqb (c % 64) 0x05 h9, (ne-eqb (c / 128 * 128 + c % 64) 0x0A h10, (ne-eqb (c / 128 * 128 + c % 64) 0x0D h11, (ne-eqb (c % 64) 0x09 h12, (ne-eqb (c / 128 * 128 + c % 32) 0x02 h13, (ne-eqb (c % 32) 0x11 h14, (ne-eqb (c % 32) 0x19 h15, (ne-eqb (c % 32) 0x1D h16, tt))))))))))))))))
+    → Invalid ≡ kindBy maskRows c
+unfolding maskRows
+mask-none c h1 h2 h3 h4 h5 h6 h7 h8 h9 h10 h11 = none-pass maskRows c (ne-eqb (c % 32) 0x10 h1, (ne-eqb (c % 32) 0x06 h2, (ne-eqb (c % 32) 0x0C h3, (ne-eqb (c % 64) 0x05 h4, (ne-eqb (c / 128 * 128 + c % 64) 0x0A h5, (ne-eqb (c / 128 * 128 + c % 64) 0x0D h6, (ne-eqb (c % 64) 0x09 h7, (ne-eqb (c / 128 * 128 + c % 32) 0x02 h8, (ne-eqb (c % 32) 0x11 h9, (ne-eqb (c % 32) 0x19 h10, (ne-eqb (c % 32) 0x1D h11, tt)))))))))))
 
 -- ---- how many bytes a command can have
 pub bytes-most : (k : Kind) → bytesFor k ≤ 9

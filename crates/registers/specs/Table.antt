@@ -30,14 +30,10 @@ pub record Row : Type 0 where
 abbrev pub row : (ℕ → ℕ) → ℕ → Kind → Row
 row mask value kind = record { passes = λ c. eqb (mask c) value; kind = kind }
 
-unfoldable pub rows : List Row
-rows =
-    row andFF 0x03 Specify
-    ∷ row andFF 0x04 SenseDrive
-    ∷ row andFF 0x07 Recalibrate
-    ∷ row andFF 0x0F SeekTo
-    ∷ row andFF 0x08 SenseInterrupt
-    ∷ row and1F 0x10 Version
+-- the rows that go by a mask, and all of them
+unfoldable pub maskRows : List Row
+maskRows =
+    row and1F 0x10 Version
     ∷ row and1F 0x06 ReadData
     ∷ row and1F 0x0C ReadDeleted
     ∷ row and3F 0x05 WriteData
@@ -49,6 +45,15 @@ rows =
     ∷ row and1F 0x19 Unserved
     ∷ row and1F 0x1D Unserved
     ∷ []
+
+unfoldable pub rows : List Row
+rows =
+    row andFF 0x03 Specify
+    ∷ row andFF 0x04 SenseDrive
+    ∷ row andFF 0x07 Recalibrate
+    ∷ row andFF 0x0F SeekTo
+    ∷ row andFF 0x08 SenseInterrupt
+    ∷ maskRows
 
 -- the command of the first row that takes a byte, "other" where none does
 unfoldable pub kindBy : List Row → ℕ → Kind

@@ -1,7 +1,6 @@
 // The commands, by their first byte.
 ghost use mathlib.Core.Path.{_≡_};
-ghost use Prim.Native.Nat.{_≤_};
-ghost use Rattle.registers.specs.Table.{kindOf, bytesFor};
+ghost use Rattle.registers.specs.Table.{maskRows, kindBy, kindOf, bytesFor};
 
 pub enum Kind {
     Specify,
@@ -19,29 +18,14 @@ pub enum Kind {
     Invalid,
 }
 
-// The command that this first byte begins: masks first, then plain branches.
-pub fn kind_of(c: u8) -> Kind
-    ensures { λ r. ⌜ r ≡ kindOf c ⌝ }
+// The command of the rows that go by a mask: masks first, then plain branches.
+fn mask_kind(c: u8) -> Kind
+    ensures { λ r. ⌜ r ≡ kindBy maskRows c ⌝ }
 {
     let m1f = c % 32;
     let m3f = c % 64;
     let mbf = c / 128 * 128 + c % 64;
     let m9f = c / 128 * 128 + c % 32;
-    if c == 0x03 {
-        return Kind::Specify;
-    }
-    if c == 0x04 {
-        return Kind::SenseDrive;
-    }
-    if c == 0x07 {
-        return Kind::Recalibrate;
-    }
-    if c == 0x0F {
-        return Kind::SeekTo;
-    }
-    if c == 0x08 {
-        return Kind::SenseInterrupt;
-    }
     if m1f == 0x10 {
         return Kind::Version;
     }
@@ -76,6 +60,28 @@ pub fn kind_of(c: u8) -> Kind
         return Kind::Unserved;
     }
     Kind::Invalid
+}
+
+// The command that this first byte begins.
+pub fn kind_of(c: u8) -> Kind
+    ensures { λ r. ⌜ r ≡ kindOf c ⌝ }
+{
+    if c == 0x03 {
+        return Kind::Specify;
+    }
+    if c == 0x04 {
+        return Kind::SenseDrive;
+    }
+    if c == 0x07 {
+        return Kind::Recalibrate;
+    }
+    if c == 0x0F {
+        return Kind::SeekTo;
+    }
+    if c == 0x08 {
+        return Kind::SenseInterrupt;
+    }
+    mask_kind(c)
 }
 
 // How many bytes a command has.
