@@ -3,12 +3,48 @@
 impl Floppy {
     /// How many bytes of data and of the reply are unread.
     pub fn unread(&self) -> (usize, usize) {
-        let unread = |bytes: &Cursor<Vec<u8>>| bytes.get_ref().len() - bytes.position() as usize;
-        (unread(&self.data), unread(&self.reply))
+        (unread(&self.data).len(), unread(&self.reply).len())
     }
 
     /// Hands the inserted disk back, if there is one.
     pub fn take_disk(&mut self) -> Option<Disk> {
         self.disk.take()
     }
+
+    /// What the ports do not show at once.
+    pub fn boxes(&self) -> Boxes<'_> {
+        Boxes {
+            seek: self.int_seek_completed as u8,
+            lost: self.lost_read,
+            index: self.read_id_idx,
+            command: &self.cmd,
+            reply: unread(&self.reply),
+            data: unread(&self.data),
+            write: self
+                .data_in
+                .as_ref()
+                .map(|(c1, id, left, held)| (*c1, id, *left, held.as_slice())),
+        }
+    }
+}
+
+/// The private fields, to be read only.
+pub struct Boxes<'a> {
+    /// 0 idle, 1 running, 2 done.
+    pub seek: u8,
+    pub lost: u32,
+    pub index: u16,
+    /// The bytes of a command that is partly sent.
+    pub command: &'a [u8],
+    /// What is unread of the reply.
+    pub reply: &'a [u8],
+    /// What is unread of the data.
+    pub data: &'a [u8],
+    /// A write in progress: the second byte of its command, its sector, how many
+    /// bytes it still takes, and those that it has.
+    pub write: Option<(u8, &'a SectorId, usize, &'a [u8])>,
+}
+
+fn unread(bytes: &Cursor<Vec<u8>>) -> &[u8] {
+    &bytes.get_ref()[bytes.position() as usize..]
 }

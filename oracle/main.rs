@@ -2,17 +2,23 @@
 //! `oracle images` writes a list of disk images as a stream, `oracle answers`
 //! reads such a stream and prints what the Rust answers. `oracle scripts` writes
 //! a list of scripts that change and read disks, `oracle outcomes` reads such a
-//! stream and prints what the Rust does.
+//! stream and prints what the Rust does. `oracle sessions` writes a list of
+//! sessions at the controller's ports, `oracle shown` reads such a stream and
+//! prints what the Rust's controller answers.
 
 mod answers;
 mod capacities;
 mod dsk;
 mod dump;
 mod images;
+mod load;
 mod noise;
 mod outcomes;
 mod script;
 mod scripts;
+mod session;
+mod sessions;
+mod shown;
 mod stream;
 
 use std::ffi::OsString;
@@ -45,7 +51,10 @@ impl fmt::Display for Failure {
     fn fmt(&self, f: &mut fmt::Formatter<'_>) -> fmt::Result {
         match self {
             Failure::Usage => {
-                write!(f, "usage: oracle images | answers | scripts | outcomes")
+                write!(
+                    f,
+                    "usage: oracle images | answers | scripts | outcomes | sessions | shown"
+                )
             }
             Failure::Stream(fault) => write!(f, "the stream is broken: {fault}"),
             Failure::Finding(error) => write!(f, "an error without a number: {error}"),
@@ -67,6 +76,8 @@ fn main() -> ExitCode {
         [word] if word == "answers" => print_answers(),
         [word] if word == "scripts" => print_scripts(),
         [word] if word == "outcomes" => print_outcomes(),
+        [word] if word == "sessions" => print_sessions(),
+        [word] if word == "shown" => print_shown(),
         _ => Err(Failure::Usage),
     };
     match done {
@@ -109,6 +120,25 @@ fn print_outcomes() -> Result<(), Failure> {
     let mut out = BufWriter::new(io::stdout().lock());
     for script in script::read(&bytes).map_err(Failure::Stream)? {
         outcomes::print(&script, &mut out)?;
+    }
+    Ok(out.flush()?)
+}
+
+fn print_sessions() -> Result<(), Failure> {
+    let mut out = BufWriter::new(io::stdout().lock());
+    for session in sessions::list() {
+        session::write(&session, &mut out)?;
+    }
+    Ok(out.flush()?)
+}
+
+/// Answers the sessions before the first that the Rust cannot answer.
+fn print_shown() -> Result<(), Failure> {
+    let bytes = read_stream()?;
+    let mut out = BufWriter::new(io::stdout().lock());
+    let sessions = session::read(&bytes).map_err(Failure::Stream)?;
+    for session in sessions.iter().take_while(|session| !session.is_refusal()) {
+        shown::print(session, &mut out)?;
     }
     Ok(out.flush()?)
 }

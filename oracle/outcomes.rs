@@ -2,7 +2,7 @@
 
 mod controller;
 
-use std::io::{self, Cursor, Write};
+use std::io::{self, Write};
 use std::ptr;
 
 use raze::disk::{Disk, Sector, Track};
@@ -10,33 +10,20 @@ use raze::floppy::SectorId;
 
 use crate::capacities::{Totals, transfer_refusal};
 use crate::script::{Id, Operation, Place, Script};
-use crate::{Failure, dump};
+use crate::{Failure, dump, load};
 
 /// A disk with more sectors is not printed whole.
 const MOST_PRINTED: usize = 600;
 
 /// Prints what each operation of the script comes to.
 pub fn print(script: &Script, out: &mut impl Write) -> Result<(), Failure> {
-    let mut disk = load(script)?;
+    let mut disk = load::disk(script.name(), script.image())?;
     writeln!(out, "script {}", script.name())?;
     for operation in script.operations() {
         write!(out, "{operation} ")?;
         disk = run(operation, disk, out)?;
     }
     Ok(())
-}
-
-/// The disk that the script begins with.
-fn load(script: &Script) -> Result<Disk, Failure> {
-    let Some(image) = script.image() else {
-        return Ok(Disk::new_formatted());
-    };
-    let broken = |fault| Failure::Stream(format!("the image of {}: {fault}", script.name()));
-    let disk = Disk::new(Cursor::new(image)).map_err(|error| broken(error.to_string()))?;
-    match Totals::of(&disk).refusal() {
-        Some(number) => Err(broken(format!("refused {number}"))),
-        None => Ok(disk),
-    }
 }
 
 /// Runs one operation, prints what it comes to, and hands back the disk.

@@ -5,10 +5,8 @@
 use std::fmt;
 use std::io::{self, Write};
 
+use crate::load::LARGEST;
 use crate::stream::{self, Record};
-
-/// No image of a script is longer.
-const LARGEST: usize = 65_536;
 
 /// Where a track is: side and cylinder.
 pub type Place = [u8; 2];

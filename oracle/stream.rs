@@ -49,8 +49,13 @@ fn is_name(name: &str) -> bool {
 pub fn write(record: &Record, out: &mut impl Write) -> io::Result<()> {
     out.write_all(&[record.name.len() as u8])?;
     out.write_all(record.name.as_bytes())?;
-    out.write_all(&(record.image.len() as u32).to_le_bytes())?;
-    out.write_all(&record.image)
+    write_block(&record.image, out)
+}
+
+/// Writes bytes behind their length to the stream.
+pub fn write_block(bytes: &[u8], out: &mut impl Write) -> io::Result<()> {
+    out.write_all(&(bytes.len() as u32).to_le_bytes())?;
+    out.write_all(bytes)
 }
 
 /// Reads every record of a stream, or says where and how it is broken.
@@ -77,12 +82,19 @@ pub fn read_all<T>(
 pub fn read_record(stream: &mut &[u8]) -> Result<Record, String> {
     let [length] = take_array(stream, "length of the name")?;
     let name = take(stream, length.into(), "name")?;
-    let length = u32::from_le_bytes(take_array(stream, "length of the image")?);
-    let image = take(stream, length as usize, "image")?;
+    let image = take_block(stream, "image")?;
     Record::new(String::from_utf8_lossy(name).into_owned(), image.to_vec())
 }
 
-fn take<'a>(stream: &mut &'a [u8], length: usize, what: &str) -> Result<&'a [u8], String> {
+/// Takes the bytes that stand next behind their length, or says that the stream
+/// ends inside `what`.
+pub fn take_block<'a>(stream: &mut &'a [u8], what: &str) -> Result<&'a [u8], String> {
+    let length = u32::from_le_bytes(take_array(stream, what)?);
+    take(stream, length as usize, what)
+}
+
+/// Takes the next bytes of a stream, or says that it ends inside `what`.
+pub fn take<'a>(stream: &mut &'a [u8], length: usize, what: &str) -> Result<&'a [u8], String> {
     stream
         .split_off(..length)
         .ok_or_else(|| format!("the stream ends inside the {what}"))

@@ -1,0 +1,180 @@
+//! Prints what the Rust's controller answers in a session.
+
+use std::io::{self, Write};
+
+use raze::disk::Disk;
+use raze::floppy::{Boxes, Floppy};
+
+use crate::capacities::{Totals, transfer_refusal};
+use crate::session::{Call, Hex, Session, Shown, Slot};
+use crate::{Failure, dump, load};
+
+/// A disk with more tracks or sectors is not printed whole.
+const MOST_PRINTED: usize = 40;
+
+/// The controller, and the disks that are not in its drive.
+struct Bench {
+    floppy: Floppy,
+    slot: Slot,
+    a: Option<Disk>,
+    b: Option<Disk>,
+}
+
+/// Prints what each call of the session answers, and what is left in the end.
+pub fn print(session: &Session, out: &mut impl Write) -> Result<(), Failure> {
+    let [a, b] = session.images();
+    let mut bench = Bench {
+        floppy: Floppy::new(),
+        slot: Slot::Empty,
+        a: Some(load::disk(session.name(), a)?),
+        b: Some(load::disk(session.name(), b)?),
+    };
+    writeln!(out, "session {}", session.name())?;
+    for call in session.calls() {
+        write!(out, "{call}")?;
+        let done = bench.call(call, out)?;
+        done.map_err(|fault| Failure::Stream(format!("{}: {call}: {fault}", session.name())))?;
+        writeln!(out)?;
+    }
+    Ok(bench.finish(out)?)
+}
+
+impl Bench {
+    /// Does one call, and prints its answer behind it; or says why the Rust cannot
+    /// be asked.
+    fn call(&mut self, call: &Call, out: &mut impl Write) -> io::Result<Result<(), String>> {
+        match call {
+            Call::Put(slot) => self.put(*slot),
+            Call::Motor(on) => self.floppy.set_motor(*on),
+            Call::Status(times) => {
+                let answers: Vec<u8> = (0..*times).map(|_| self.floppy.read_status()).collect();
+                write!(out, "{}", Shown(&answers))?;
+            }
+            Call::Read(times) => {
+                let answers: Vec<u8> = (0..*times).map(|_| self.floppy.read_cmd()).collect();
+                write!(out, "{}", Shown(&answers))?;
+            }
+            Call::Send { times, bytes } => return Ok(self.send(*times, bytes)),
+            Call::Ask => self.print_asked(out)?,
+            Call::Boxes => print_boxes(&self.floppy.boxes(), out)?,
+            Call::Lend { .. } | Call::Table { .. } | Call::Number { .. } => {
+                return Ok(Err("the Rust has nothing of the kind".to_owned()));
+            }
+        }
+        Ok(Ok(()))
+    }
+
+    /// Takes the disk out of the drive, and puts another in.
+    fn put(&mut self, slot: Slot) {
+        let old = self.floppy.take_disk();
+        match self.slot {
+            Slot::Empty => {}
+            Slot::A => self.a = old,
+            Slot::B => self.b = old,
+        }
+        self.slot = slot;
+        self.floppy.set_disk(match slot {
+            Slot::Empty => None,
+            Slot::A => self.a.take(),
+            Slot::B => self.b.take(),
+        });
+    }
+
+    /// Sends bytes. A byte that the capacities would refuse is a fault of the list.
+    fn send(&mut self, times: u16, bytes: &[u8]) -> Result<(), String> {
+        for _ in 0..times {
+            for &byte in bytes {
+                self.floppy.write_cmd(byte);
+                if let Some(number) = self.refusal() {
+                    return Err(format!("a byte that is refused, {number}"));
+                }
+            }
+        }
+        Ok(())
+    }
+
+    /// The refusal number of what the disk and the transfer buffer now hold.
+    fn refusal(&self) -> Option<u8> {
+        let (data, _) = self.floppy.unread();
+        let disk = self.floppy.disk().map(Totals::of);
+        disk.and_then(|totals| totals.refusal())
+            .or(transfer_refusal(data, u32::MAX))
+    }
+
+    fn print_asked(&self, out: &mut impl Write) -> io::Result<()> {
+        write!(
+            out,
+            " motor {} track {} disk {}",
+            u8::from(self.floppy.motor()),
+            self.floppy.current_track(),
+            u8::from(self.floppy.disk().is_some())
+        )
+    }
+
+    /// Prints the controller and both disks as they are in the end.
+    fn finish(mut self, out: &mut impl Write) -> io::Result<()> {
+        write!(out, "ask")?;
+        self.print_asked(out)?;
+        write!(out, "\nboxes")?;
+        print_boxes(&self.floppy.boxes(), out)?;
+        writeln!(out)?;
+        self.put(Slot::Empty);
+        for (name, disk) in [("a", self.a), ("b", self.b)] {
+            writeln!(out, "disk {name}")?;
+            print_disk(&disk.expect("both disks are out"), out)?;
+        }
+        Ok(())
+    }
+}
+
+fn print_boxes(boxes: &Boxes, out: &mut impl Write) -> io::Result<()> {
+    let Boxes {
+        seek, lost, index, ..
+    } = boxes;
+    write!(out, " seek {seek} lost {lost} index {index}")?;
+    write!(out, " command{}", Hex(boxes.command))?;
+    write!(out, " reply{}", Hex(boxes.reply))?;
+    let (data, check) = (boxes.data.len(), dump::check(boxes.data));
+    write!(out, " data {data} {check}")?;
+    let Some((c1, id, left, held)) = boxes.write else {
+        return write!(out, " write none");
+    };
+    let id = [c1, id.c, id.h, id.r, id.n];
+    write!(out, " write {left}{} {}", Hex(&id), dump::check(held))
+}
+
+/// Prints the disk whole, or where that is long its totals and two check numbers:
+/// of its rows, and of all data.
+fn print_disk(disk: &Disk, out: &mut impl Write) -> io::Result<()> {
+    let totals = Totals::of(disk);
+    if totals.tracks.max(totals.sectors) <= MOST_PRINTED {
+        return dump::print(disk, out);
+    }
+    let sectors = disk.tracks().iter().flat_map(|track| track.sectors());
+    let data: Vec<u8> = sectors.flat_map(|sector| sector.data.clone()).collect();
+    let (rows, data) = (dump::check(&rows(disk)), dump::check(&data));
+    writeln!(out, "{totals}\ncheck {rows} {data}")
+}
+
+/// The number of tracks; of each track cylinder, side, size, gap, filler, number
+/// of sectors; of each of its sectors ID, status and stored length.
+fn rows(disk: &Disk) -> Vec<u8> {
+    let mut rows = vec![disk.tracks().len() as u8];
+    for track in disk.tracks() {
+        let size = track.sector_size();
+        rows.extend([
+            track.cylinder(),
+            track.side(),
+            size,
+            track.gap3(),
+            track.filler(),
+        ]);
+        rows.push(track.sectors().len() as u8);
+        for sector in track.sectors() {
+            let id = &sector.id;
+            rows.extend([id.c, id.h, id.r, id.n, sector.st1.bits(), sector.st2.bits()]);
+            rows.extend((sector.data.len() as u16).to_le_bytes());
+        }
+    }
+    rows
+}
