@@ -1,0 +1,161 @@
+-- Demand 3, on the machine: what saves leave on the disk.
+use mathlib.Core.Path.{_≡_, refl, sym, ap, _∙_}
+use Prim.Native.Nat.{ℕ, zero, suc, _+_, _%_, _≤_, _<_}
+use native.Mathlib.Omega.{arith}
+use mathlib.Core.Bool.{Bool, true, false}
+use mathlib.Core.List.{List, [], _∷_, _++_}
+use mathlib.Core.Option.{none}
+use lib.ListN.{length}
+use lib.Dec.{eqb, leb}
+use borrow.Author.Tests.{eq-eqb}
+use Rattle.image.specs.Refusals.{Result, refused, good, need, after}
+use Rattle.image.specs.Model.{sizeOf, Sector, Disk, byteCount}
+use Rattle.image.specs.declared.id.SectorId.{SectorId}
+use Rattle.image.specs.declared.refusal.Refusal.{Refusal}
+use Rattle.image.specs.declared.refusal.Refusal.the-variants.{NoRoom}
+use Rattle.image.proofs.Sizes.{size-pos}
+use Rattle.store.specs.Find.{Found, nothing, found}
+use Rattle.store.specs.Search.{sectorAt}
+use Rattle.disk.specs.Change.{withContent, saved}
+use Rattle.registers.specs.declared.kind.Kind.the-variants.{SeekTo, WriteData}
+use Rattle.registers.specs.Boxes.{Setting, Slot, Holds, Inside, World, Finish, changed, allChanged, putIn}
+use Rattle.registers.specs.Table.{kindOf, kindBy, rows, bytesFor}
+use Rattle.floppy.specs.Commands.{driveOf, headOf, named, puts, seekIf, startAt, writeData, writeReply, saveAt, written, obeyed}
+use Rattle.saves.specs.Events.{Event, Played, play, sentIn}
+use Rattle.saves.specs.Words.{Ready, Address, Save, bytesOf, addressOf, IsSave, savedAt, savedBy}
+use Rattle.saves.proofs.Finds.{mapFound}
+use Rattle.saves.proofs.Places.{at, save-twice, save-found, save-other, save-comm, Only, save-only}
+use Rattle.saves.proofs.Feeding.{effected, fed, insides, play-inside, partly, writing, command-fed, data-fed}
+
+-- ---- the three parts of a save
+
+drive-0 : (unit : ℕ) (slot : Slot) → driveOf unit ≡ 0 → named unit slot ≡ slot
+drive-0 unit slot e = rw (eq-eqb (unit % 4) 0 e)
+
+module _ (s : Setting) (m : Bool) (x : ℕ) (d : Disk) where
+  seek-fed : (c unit cylinder : ℕ) (bs : List ℕ) → driveOf unit ≡ 0 → fed s (0x0F ∷ unit ∷ cylinder ∷ bs) (partly m c x d []) ≡ fed s bs (partly m cylinder x d [])
+  unfolding obeyed seekIf kindOf kindBy rows changed allChanged putIn
+  seek-fed c unit cylinder bs e =
+      command-fed s m c x d 0x0F SeekTo refl unit (cylinder ∷ []) bs refl ∙ rw (eq-eqb (unit % 4) 0 e)
+
+  write-fed : (c code unit : ℕ) (id : SectorId) (eot gap dtl : ℕ) (bs : List ℕ) (k : ℕ) (z : Sector) → kindOf code ≡ WriteData → driveOf unit ≡ 0
+      → sectorAt d (headOf unit) c id ≡ found k z
+      → fed s (code ∷ unit ∷ id .c ∷ id .h ∷ id .r ∷ id .n ∷ eot ∷ gap ∷ dtl ∷ bs) (partly m c x d []) ≡ fed s bs (writing m c x d unit id [])
+  unfolding obeyed writeData startAt changed allChanged putIn
+  write-fed c code unit id eot gap dtl bs k z e f g =
+      command-fed s m c x d code WriteData e unit (id .c ∷ id .h ∷ id .r ∷ id .n ∷ eot ∷ gap ∷ dtl ∷ []) bs refl
+      ∙ rw (eq-eqb (unit % 4) 0 f, g)
+
+  -- the disk then, or 8
+  abbrev After : ℕ → Disk → Result Inside
+  After c new = need (leb (byteCount new) (s .room)) NoRoom (good (partly m c x new []))
+
+  written-is : (c unit : ℕ) (id : SectorId) (bytes : List ℕ) (k : ℕ) (z : Sector) → sectorAt d (headOf unit) c id ≡ found k z
+      → after (written (s .room) unit id bytes c (Holds (good d))) (λ e. good (effected e (writing m c x d unit id bytes))) ≡ After c (saved (headOf unit) c id bytes d)
+  unfolding written saveAt changed allChanged putIn
+  written-is c unit id bytes k z g = rw g (go (leb (byteCount (saved (headOf unit) c id bytes d)) (s .room)))
+    where
+      go : (v : Bool) → after (need v NoRoom (puts (Finish ∷ []) (saved (headOf unit) c id bytes d) (writeReply unit id))) (λ e. good (effected e (writing m c x d unit id bytes))) ≡ need v NoRoom (good (partly m c x (saved (headOf unit) c id bytes d) []))
+      go true = refl
+      go false = refl
+
+  content-fed : (c unit : ℕ) (id : SectorId) (bytes : List ℕ) (k : ℕ) (z : Sector) → length bytes ≡ sizeOf (id .n) → sectorAt d (headOf unit) c id ≡ found k z
+      → fed s bytes (writing m c x d unit id []) ≡ After c (saved (headOf unit) c id bytes d)
+  content-fed c unit id [] k z n g = absurd (omega (arith, size-pos (id .n)))
+  content-fed c unit id (b ∷ r) k z n g = data-fed s m c x d unit id [] b r (omega arith) ∙ written-is c unit id (b ∷ r) k z g
+
+  save-fed : (c : ℕ) (a : Save) → IsSave a d → fed s (bytesOf a) (partly m c x d []) ≡ After (a .cylinder) (savedBy a d)
+  unfolding bytesOf addressOf savedAt
+  save-fed c a h =
+      seek-fed c (a .seekUnit) (a .cylinder) _ (h .seeks-drive-0)
+      ∙ write-fed (a .cylinder) (a .code) (a .unit) (a .id) (a .eot) (a .gap) (a .dtl) (a .content) (h .place) (h .sector) (h .writes) (h .writes-drive-0) (h .there)
+      ∙ content-fed (a .cylinder) (a .unit) (a .id) (a .content) (h .place) (h .sector) (h .as-many) (h .there)
+
+need-good : {A : Type 0} (v : Bool) (why : Refusal) (a b : A) → need v why (good a) ≡ good b → b ≡ a
+need-good true why a b e = cc
+need-good false why a b e = let z : _≡_ {A = ℕ} 0 1 = cc in absurd (omega arith)
+
+ready-is : (w : World) (d : Disk) → Ready w d → w .inside ≡ partly (w .inside .motor) (w .inside .cylinder) (w .inside .index) d []
+ready-is w d h k = record {
+  motor = w .inside .motor;
+  cylinder = w .inside .cylinder;
+  index = w .inside .index;
+  command = h .nothing-sent k;
+  write = h .no-write k;
+  slot = h .disk-in k;
+}
+
+-- inside, after a save: the head has moved, and the disk is the one that the save leaves
+pub saved-inside : (s : Setting) (a : Save) (d : Disk) (w : World) (es : List Event) (p : Played) → Ready w d → IsSave a d → sentIn es ≡ bytesOf a → play s es w ≡ good p
+    → p .world .inside ≡ partly (w .inside .motor) (a .cylinder) (w .inside .index) (savedBy a d) []
+saved-inside s a d w es p ready save bytes ran =
+    let i : Inside = partly (w .inside .motor) (w .inside .cylinder) (w .inside .index) d [] in
+    let e : good (p .world .inside) ≡ fed s (bytesOf a) i = ap insides (sym ran) ∙ play-inside s es w ∙ ap (λ (l : List ℕ). fed s l (w .inside)) bytes ∙ ap (fed s (bytesOf a)) (ready-is w d ready) in
+    need-good (leb (byteCount (savedBy a d)) (s .room)) NoRoom (partly (w .inside .motor) (a .cylinder) (w .inside .index) (savedBy a d) []) (p .world .inside)
+    (sym (e ∙ save-fed s (w .inside .motor) (w .inside .index) d (w .inside .cylinder) a save))
+
+-- and the next one may begin
+saved-ready : (s : Setting) (a : Save) (d : Disk) (w : World) (es : List Event) (p : Played) → Ready w d → IsSave a d → sentIn es ≡ bytesOf a → play s es w ≡ good p
+    → Ready (p .world) (savedBy a d)
+saved-ready s a d w es p ready save bytes ran =
+    let e = saved-inside s a d w es p ready save bytes ran in
+    record { disk-in = ap (λ (i : Inside). i .slot) e; nothing-sent = ap (λ (i : Inside). i .command) e; no-write = ap (λ (i : Inside). i .write) e }
+
+-- ---- the demand
+
+-- A save, with any port reads before, between and after its bytes, from any state that is ready, if nothing is refused: the content of the sector
+-- that the search finds at its address is the bytes sent, and nothing else on the disk changes.
+pub save-touches : (s : Setting) (a : Save) (d : Disk) (w : World) (es : List Event) (p : Played)
+    → Ready w d → (save : IsSave a d) → sentIn es ≡ bytesOf a → play s es w ≡ good p
+    → Ready (p .world) (savedBy a d) × Only (addressOf a) (a .content) (save .place) (save .sector) d (savedBy a d)
+unfolding addressOf
+save-touches s a d w es p ready save bytes ran =
+    (saved-ready s a d w es p ready save bytes ran, save-only (addressOf a) (a .content) (save .place) (save .sector) d (save .there))
+
+-- a save that is one stays one after a save to the same address, and to another
+still-same : (a b : Save) (d : Disk) → addressOf a ≡ addressOf b → IsSave b d → IsSave b (savedBy a d)
+unfolding addressOf
+still-same a b d e h = record {
+  writes = h .writes;
+  seeks-drive-0 = h .seeks-drive-0;
+  writes-drive-0 = h .writes-drive-0;
+  as-many = h .as-many;
+  place = h .place;
+  sector = withContent (a .content) (h .sector);
+  there = ap (λ (y : Address). at (addressOf b) (savedAt y (a .content) d)) e ∙ save-found (addressOf b) (a .content) d ∙ ap (mapFound (withContent (a .content))) (h .there);
+}
+
+still-other : (a b : Save) (d : Disk) → (addressOf a ≡ addressOf b → ⊥) → IsSave b d → IsSave b (savedBy a d)
+unfolding addressOf
+still-other a b d e h = record {
+  writes = h .writes;
+  seeks-drive-0 = h .seeks-drive-0;
+  writes-drive-0 = h .writes-drive-0;
+  as-many = h .as-many;
+  place = h .place;
+  sector = h .sector;
+  there = save-other (addressOf a) (addressOf b) e (a .content) d ∙ h .there;
+}
+
+-- Two saves to one address leave the disk that the second alone leaves.
+pub second-alone : (s : Setting) (a b : Save) (d : Disk) (w : World) (es fs gs : List Event) (p q r : Played)
+    → Ready w d → IsSave a d → IsSave b d → addressOf a ≡ addressOf b
+    → sentIn es ≡ bytesOf a → play s es w ≡ good p
+    → sentIn fs ≡ bytesOf b → play s fs (p .world) ≡ good q
+    → sentIn gs ≡ bytesOf b → play s gs w ≡ good r
+    → q .world .inside .slot ≡ r .world .inside .slot
+second-alone s a b d w es fs gs p q r ready sa sb same ea ra eb rb ec rc =
+    saved-ready s b (savedBy a d) (p .world) fs q (saved-ready s a d w es p ready sa ea ra) (still-same a b d same sb) eb rb .disk-in
+    ∙ ap (λ (y : Disk). Holds (good y)) (ap (λ (y : Address). savedAt (addressOf b) (b .content) (savedAt y (a .content) d)) same ∙ save-twice (addressOf b) (a .content) (b .content) d)
+    ∙ sym (saved-ready s b d w gs r ready sb ec rc .disk-in)
+
+-- Saves to two addresses leave the same disk in either order, if neither order is refused.
+pub either-order : (s : Setting) (a b : Save) (d : Disk) (w : World) (es fs fs′ es′ : List Event) (p q p′ q′ : Played)
+    → Ready w d → IsSave a d → IsSave b d → (addressOf a ≡ addressOf b → ⊥)
+    → sentIn es ≡ bytesOf a → play s es w ≡ good p → sentIn fs ≡ bytesOf b → play s fs (p .world) ≡ good q
+    → sentIn fs′ ≡ bytesOf b → play s fs′ w ≡ good p′ → sentIn es′ ≡ bytesOf a → play s es′ (p′ .world) ≡ good q′
+    → q .world .inside .slot ≡ q′ .world .inside .slot
+either-order s a b d w es fs fs′ es′ p q p′ q′ ready sa sb differ ea ra eb rb eb′ rb′ ea′ ra′ =
+    saved-ready s b (savedBy a d) (p .world) fs q (saved-ready s a d w es p ready sa ea ra) (still-other a b d differ sb) eb rb .disk-in
+    ∙ ap (λ (y : Disk). Holds (good y)) (save-comm (addressOf a) (addressOf b) differ (a .content) (b .content) d)
+    ∙ sym (saved-ready s a (savedBy b d) (p′ .world) es′ q′ (saved-ready s b d w fs′ p′ ready sb eb′ rb′) (still-other b a d (λ e. differ (sym e)) sa) ea′ ra′ .disk-in)

@@ -1,0 +1,69 @@
+-- Saves, in the words of demand 3.
+use mathlib.Core.Path.{_≡_}
+use Prim.Native.Nat.{ℕ}
+use mathlib.Core.List.{List, [], _∷_}
+use mathlib.Core.Option.{none}
+use lib.ListN.{length}
+use Rattle.image.specs.Refusals.{good}
+use Rattle.image.specs.Model.{sizeOf, Sector, Disk}
+use Rattle.image.specs.declared.id.SectorId.{SectorId}
+use Rattle.store.specs.Find.{found}
+use Rattle.store.specs.Search.{sectorAt}
+use Rattle.disk.specs.Change.{saved}
+use Rattle.registers.specs.declared.kind.Kind.the-variants.{WriteData}
+use Rattle.registers.specs.Boxes.{Holds, World}
+use Rattle.registers.specs.Table.{kindOf}
+use Rattle.floppy.specs.Commands.{driveOf, headOf}
+
+-- a disk is in drive 0, nothing is half sent, no write is in progress
+pub record Ready (w : World) (d : Disk) : Type 0 where
+  pub disk-in : w .inside .slot ≡ Holds (good d)
+  pub nothing-sent : w .inside .command ≡ []
+  pub no-write : w .inside .write ≡ none
+
+-- an address: cylinder, head, four ID bytes
+pub record Address : Type 0 where
+  pub cylinder : ℕ
+  pub side : ℕ
+  pub id : SectorId
+
+-- a save: a Seek, a Write Data and its data
+pub record Save : Type 0 where
+  pub seekUnit : ℕ
+  pub cylinder : ℕ
+  pub code : ℕ
+  pub unit : ℕ
+  pub id : SectorId
+  pub eot : ℕ
+  pub gap : ℕ
+  pub dtl : ℕ
+  pub content : List ℕ
+
+-- the bytes that are sent
+unfoldable pub bytesOf : Save → List ℕ
+bytesOf a =
+    0x0F ∷ a .seekUnit ∷ a .cylinder
+    ∷ a .code ∷ a .unit ∷ a .id .c ∷ a .id .h ∷ a .id .r ∷ a .id .n ∷ a .eot ∷ a .gap ∷ a .dtl
+    ∷ a .content
+
+-- where it goes
+unfoldable pub addressOf : Save → Address
+addressOf a = record { cylinder = a .cylinder; side = headOf (a .unit); id = a .id }
+
+-- every command names drive 0, the Write Data a sector that is there, and the data are as many bytes as its n calls for
+pub record IsSave (a : Save) (d : Disk) : Type 0 where
+  pub writes : kindOf (a .code) ≡ WriteData
+  pub seeks-drive-0 : driveOf (a .seekUnit) ≡ 0
+  pub writes-drive-0 : driveOf (a .unit) ≡ 0
+  pub as-many : length (a .content) ≡ sizeOf (a .id .n)
+  pub place : ℕ
+  pub sector : Sector
+  pub there : sectorAt d (headOf (a .unit)) (a .cylinder) (a .id) ≡ found place sector
+
+-- the disk on which the sector at an address has other bytes
+unfoldable pub savedAt : Address → List ℕ → Disk → Disk
+savedAt x new d = saved (x .side) (x .cylinder) (x .id) new d
+
+-- the disk that a save leaves
+abbrev pub savedBy : Save → Disk → Disk
+savedBy a d = savedAt (addressOf a) (a .content) d
