@@ -3,3 +3,4 @@ pub mod Finds
 pub mod Places
 pub mod Feeding
 pub mod Demand
+pub mod ReadBack

@@ -33,7 +33,7 @@ is-track : (s c : ℕ) (t : Track) → isTrack s c t ≡ true → (t .cylinder �
 is-track s c t e =
     (eqb-true (t .cylinder) c (and-left (eqb (t .cylinder) c) (eqb (t .side) s) e), eqb-true (t .side) s (and-right (eqb (t .cylinder) c) (eqb (t .side) s) e))
 
-is-sector : (i : SectorId) (s : Sector) → isSector i s ≡ true → s .id ≡ i
+pub is-sector : (i : SectorId) (s : Sector) → isSector i s ≡ true → s .id ≡ i
 is-sector i s e =
     let r1 = and-right (eqb (s .id .c) (i .c)) (eqb (s .id .h) (i .h) && (eqb (s .id .r) (i .r) && eqb (s .id .n) (i .n))) e in
     let r2 = and-right (eqb (s .id .h) (i .h)) (eqb (s .id .r) (i .r) && eqb (s .id .n) (i .n)) r1 in
@@ -142,6 +142,7 @@ pub record Only (a : Address) (x : List ℕ) (k : ℕ) (s : Sector) (d d′ : Di
   pub sectors-were : track .sectors ≡ front ++ (s ∷ back)
   pub first-track : find (isTrack (a .side) (a .cylinder)) before ≡ nothing
   pub first-sector : find (isSector (a .id)) front ≡ nothing
+  pub named-so : s .id ≡ a .id
 
 pub save-only : (a : Address) (x : List ℕ) (k : ℕ) (s : Sector) (d : Disk) → at a d ≡ found k s → Only a x k s d (savedAt a x d)
 unfolding savedAt saved sectorAt
@@ -163,4 +164,5 @@ save-only a x k s d e = go (find (isTrack (a .side) (a .cylinder)) d) refl e
           sectors-were = v .was;
           first-track = u .none-before;
           first-sector = v .none-before;
+          named-so = is-sector (a .id) s (v .passes);
         }

@@ -1,6 +1,6 @@
 -- Saves, in the words of demand 3.
 use mathlib.Core.Path.{_≡_}
-use Prim.Native.Nat.{ℕ}
+use Prim.Native.Nat.{ℕ, suc, _+_, _≤_}
 use mathlib.Core.List.{List, [], _∷_}
 use mathlib.Core.Option.{none}
 use lib.ListN.{length}
@@ -10,10 +10,12 @@ use Rattle.image.specs.declared.id.SectorId.{SectorId}
 use Rattle.store.specs.Find.{found}
 use Rattle.store.specs.Search.{sectorAt}
 use Rattle.disk.specs.Change.{saved}
-use Rattle.registers.specs.declared.kind.Kind.the-variants.{WriteData}
+use Rattle.registers.specs.declared.kind.Kind.the-variants.{ReadData, WriteData}
 use Rattle.registers.specs.Boxes.{Holds, World}
 use Rattle.registers.specs.Table.{kindOf}
-use Rattle.floppy.specs.Commands.{driveOf, headOf}
+use Rattle.registers.specs.Ports.{afterStatus, afterRead}
+use Rattle.floppy.specs.Commands.{u, driveOf, headOf, withBit}
+use Rattle.saves.specs.Events.{Event, poll, read, send, Answer, showed, gave, took}
 
 -- a disk is in drive 0, nothing is half sent, no write is in progress
 pub record Ready (w : World) (d : Disk) : Type 0 where
@@ -67,3 +69,40 @@ savedAt x new d = saved (x .side) (x .cylinder) (x .id) new d
 -- the disk that a save leaves
 abbrev pub savedBy : Save → Disk → Disk
 savedBy a d = savedAt (addressOf a) (a .content) d
+
+-- ---- Reading it back
+
+-- a Read Data of the save's sector alone: drive 0, the same head and ID, eot at most r
+pub record ReadsBack (a : Save) (code unit eot : ℕ) : Type 0 where
+  pub reads : kindOf code ≡ ReadData
+  pub drive-0 : driveOf unit ≡ 0
+  pub same-head : headOf unit ≡ headOf (a .unit)
+  pub alone : eot ≤ a .id .r
+
+-- its bytes but the last, dtl
+unfoldable pub readBytes : Save → ℕ → ℕ → ℕ → ℕ → List ℕ
+readBytes a code unit eot gap = code ∷ unit ∷ a .id .c ∷ a .id .h ∷ a .id .r ∷ a .id .n ∷ eot ∷ gap ∷ []
+
+-- the reply: EN, since the bytes are as many as n calls for, beside the sector's own status bits
+unfoldable pub replyTo : Save → ℕ → ℕ → Sector → List ℕ
+replyTo a unit eot z = (u unit + 0x40) ∷ withBit 0x80 (z .st1 .bits) ∷ z .st2 .bits ∷ a .id .c ∷ a .id .h ∷ eot ∷ a .id .n ∷ []
+
+-- port reads alone, of which no status read loses a byte
+unfoldable pub LosesNone : List Event → World → Type 0
+LosesNone [] w = Unit {0}
+LosesNone (poll ∷ es) w = (afterStatus w .front .unread ≡ w .front .unread) × LosesNone es (afterStatus w)
+LosesNone (read ∷ es) w = LosesNone es (afterRead w)
+LosesNone (send b ∷ es) w = ⊥
+
+-- how many of them read the data port, and what it gave
+unfoldable pub dataReads : List Event → ℕ
+dataReads [] = 0
+dataReads (poll ∷ es) = dataReads es
+dataReads (read ∷ es) = suc (dataReads es)
+dataReads (send b ∷ es) = dataReads es
+
+unfoldable pub givenIn : List Answer → List ℕ
+givenIn [] = []
+givenIn (showed n ∷ l) = givenIn l
+givenIn (gave n ∷ l) = n ∷ givenIn l
+givenIn (took ∷ l) = givenIn l
