@@ -4,3 +4,5 @@ pub mod Places
 pub mod Feeding
 pub mod Demand
 pub mod ReadBack
+pub mod Kept
+pub mod Carried

@@ -1,0 +1,239 @@
+-- A sequence of real calls is a run of the machine: so what is proved of runs holds of what a host gets.
+use mathlib.Core.Path.{_≡_, refl, sym, ap, ap₂, subst, _∙_}
+use Prim.Native.Nat.{ℕ, _+_, _≤_}
+use native.Mathlib.Omega.{arith}
+use mathlib.Core.Bool.{Bool, true, false, _||_}
+use mathlib.Core.List.{List, [], _∷_}
+use mathlib.Core.Option.{Option, none, some}
+use lib.ListN.{length}
+use lib.Dec.{eqb, ltb}
+use borrow.Author.Tests.{le-ltb}
+use Rattle.image.specs.Refusals.{Result, refused, good, after}
+use Rattle.image.specs.declared.refusal.Refusal.the-variants.{BadController}
+use Rattle.store.specs.Store.{roomOf, transferRoom, diskOf}
+use Rattle.store.specs.declared.answer.Done.{Done as Finished}
+use Rattle.store.specs.declared.answer.Done.the-variants as finished
+use Rattle.registers.specs.declared.regs.Regs.{Regs}
+use Rattle.registers.specs.declared.regs.Told.{Told}
+use Rattle.registers.specs.declared.regs.Byte.the-variants as byte
+use Rattle.registers.specs.Boxes.{Setting, Inside, World, Sent}
+use Rattle.registers.specs.Ports.{Poll, Stays, Counts, Drops, pollBy, settled, status, afterStatus, Source, Bytes, Replies, Neither, portByte, afterRead}
+use Rattle.registers.specs.View.{settingOf, slotOf, insideOf, worldOf, impossible, impossibleIn}
+use Rattle.registers.specs.Settle.{sought, regsTaken, heldTaken, regsAll, regsShifted, regsOf}
+use Rattle.registers.specs.Calls.{statusOf, regsPolled, afterStatusOf, toldIf, statusRead, sourceOf, byteFrom, regsRead, dataRead}
+use Rattle.registers.proofs.Numbers.{possible, possible-in, until-in}
+use Rattle.registers.proofs.Seen.{status-seen, read-seen}
+use Rattle.floppy.specs.Machine.{sent, done, writePort}
+use Rattle.floppy.specs.Lent.{tableWith, dataWith, transferWith, Left, left, leftOf}
+use Rattle.floppy.specs.Calls.{sentTo, dataWrite, Wrote, wrote, wroteAs}
+use Rattle.floppy.proofs.Seen.{Sees, write-seen, write-refused}
+use Rattle.floppy.proofs.Sends.{sent-right}
+use Rattle.saves.specs.Events.{Event, poll, read, send, Answer, showed, gave, took, Played, noting, play}
+use Rattle.saves.specs.Hosts.{Host, Called, telling, byteThen, doneThen, withFloppy, wroteThen, calls, Sound, seen, lent}
+use Rattle.saves.proofs.Kept.{Whole, Rooms, whole-sent, sent-room, transfer-kept, room-kept}
+
+-- ---- what stays true from call to call
+
+abbrev pub Fit : Host → Type 0
+Fit k = Whole (k .floppy .regs) (k .floppy .held) (transferRoom (k .transfer))
+
+pub sound-fit : (k : Host) → Sound k → Fit k
+sound-fit k s = record { nine = s .nine; seven = λ e. s .seven; held = s .held; inside = until-in (k .transfer) (k .floppy .regs) (s .possible) }
+
+possible-both : (x : List ℕ) (r : Regs) → impossible r ≡ false → r .until ≤ transferRoom x → impossibleIn x r ≡ false
+unfolding impossibleIn
+possible-both x r e h = rw (e, le-ltb (transferRoom x) (r .until) h)
+
+-- what a sequence that went on had before it
+record Rest (a : Answer) (z : Result Called) (q : Called) : Type 0 where
+  pub rest : Called
+  pub was : z ≡ good rest
+  pub is : q ≡ record { answers = a ∷ rest .answers; host = rest .host }
+
+told-rest : (a : Answer) (z : Result Called) (q : Called) → telling a z ≡ good q → Rest a z q
+told-rest a (refused why) q e = let z : _≡_ {A = ℕ} 0 1 = cc in absurd (omega arith)
+told-rest a (good c) q e = let z : record { answers = a ∷ c .answers; host = c .host } ≡ q = cc in record { rest = c; was = refl; is = sym z }
+
+-- where a run ends
+abbrev pub Ends : Called → Played
+Ends q = record { answers = q .answers; world = seen (q .host) }
+
+-- a run of the machine with one call more
+abbrev Goes : List Event → Type 0
+Goes es = (k : Host) (q : Called) → Fit k → calls es k ≡ good q → play (lent k) es (seen k) ≡ good (Ends q)
+
+-- ---- Status read
+
+whole-polled : (q : Poll) (r : Regs) (h : List ℕ) (n : ℕ) → Whole r h n → Whole (regsPolled q (sought (settled (r .drive .seek)) r)) h n
+unfolding regsPolled
+whole-polled Stays r h n w = record { nine = w .nine; seven = w .seven; held = w .held; inside = w .inside }
+whole-polled Counts r h n w = record { nine = w .nine; seven = w .seven; held = w .held; inside = w .inside }
+whole-polled Drops r h n w = record { nine = w .nine; seven = w .seven; held = w .held; inside = w .inside }
+
+module _ (es : List Event) (ih : Goes es) (k : Host) (q : Called) (w : Fit k) where
+  abbrev R : Regs
+  R = k .floppy .regs
+
+  -- the host with other registers
+  abbrev With : Regs → Host
+  With r = withFloppy (record { regs = r; held = k .floppy .held }) k
+
+  -- the reply is whole where the numbers are possible
+  seven-is : impossible R ≡ false → length (R .reply) ≡ 7
+  seven-is e = w .seven (possible R e .fill-in)
+
+  abbrev Polled : Told → Result Called
+  Polled a = byteThen (a .answer) (λ n. telling (showed n) (calls es (With (a .regs))))
+
+  abbrev StatusAs : Bool → Told
+  StatusAs v = toldIf v (statusOf R) (afterStatusOf R) R
+
+  status-as : (v : Bool) → impossible R ≡ v → statusRead R ≡ StatusAs v
+  unfolding statusRead
+  status-as v e = ap StatusAs e
+
+  status-on : impossible R ≡ false → telling (showed (statusOf R)) (calls es (With (afterStatusOf R))) ≡ good q → play (lent k) (poll ∷ es) (seen k) ≡ good (Ends q)
+  unfolding play
+  status-on e c =
+      let ok : impossibleIn (k .transfer) R ≡ false = possible-both (k .transfer) R e (w .inside) in
+      let t = status-seen R (k .floppy .held) (k .table) (k .bytes) (k .transfer) ok (w .nine) (seven-is e) in
+      let a : statusRead R ≡ StatusAs false = status-as false e in
+      let n : byte.Of (statusOf R) ≡ byte.Of (status (seen k)) = sym (ap (λ (y : Told). y .answer) a) ∙ t .0 in
+      let m : statusOf R ≡ status (seen k) = cc in
+      let v : seen (With (afterStatusOf R)) ≡ afterStatus (seen k) = sym (ap (λ (y : Told). seen (With (y .regs))) a) ∙ t .1 in
+      let r = told-rest (showed (statusOf R)) (calls es (With (afterStatusOf R))) q c in
+      let g : play (lent k) es (seen (With (afterStatusOf R))) ≡ good (Ends (r .rest)) = ih (With (afterStatusOf R)) (r .rest) (unfold afterStatusOf in whole-polled _ R (k .floppy .held) (transferRoom (k .transfer)) w) (r .was) in
+      ap₂ (λ (j : ℕ) (y : World). noting (showed j) (play (lent k) es y)) (sym m) (sym v)
+      ∙ ap (noting (showed (statusOf R))) g
+      ∙ sym (ap (λ (y : Called). good (Ends y)) (r .is))
+
+  status-goes : (v : Bool) → impossible R ≡ v → calls (poll ∷ es) k ≡ good q → play (lent k) (poll ∷ es) (seen k) ≡ good (Ends q)
+  unfolding calls
+  status-goes true e c =
+      let y : Polled (StatusAs true) ≡ good q = sym (ap Polled (status-as true e)) ∙ c in
+      let z : _≡_ {A = ℕ} 0 1 = cc in absurd (omega arith)
+  status-goes false e c = status-on e (sym (ap Polled (status-as false e)) ∙ c)
+
+  -- ---- Data-port read
+
+  whole-read : (p : Source) → Whole R (k .floppy .held) (transferRoom (k .transfer)) → Whole (regsRead p R) (k .floppy .held) (transferRoom (k .transfer))
+  unfolding regsRead
+  whole-read Bytes w = record { nine = w .nine; seven = w .seven; held = w .held; inside = w .inside }
+  whole-read Replies w = record { nine = w .nine; seven = w .seven; held = w .held; inside = w .inside }
+  whole-read Neither w = record { nine = w .nine; seven = w .seven; held = w .held; inside = w .inside }
+
+  abbrev Given : Told → Result Called
+  Given a = byteThen (a .answer) (λ n. telling (gave n) (calls es (With (a .regs))))
+
+  abbrev ReadAs : Bool → Told
+  ReadAs v = toldIf v (byteFrom (sourceOf R) R (k .transfer)) (regsRead (sourceOf R) R) R
+
+  read-as : (v : Bool) → impossibleIn (k .transfer) R ≡ v → dataRead R (k .transfer) ≡ ReadAs v
+  unfolding dataRead
+  read-as v e = ap ReadAs e
+
+  read-on : impossibleIn (k .transfer) R ≡ false → telling (gave (byteFrom (sourceOf R) R (k .transfer))) (calls es (With (regsRead (sourceOf R) R))) ≡ good q
+      → play (lent k) (read ∷ es) (seen k) ≡ good (Ends q)
+  unfolding play
+  read-on ok c =
+      let t = read-seen R (k .floppy .held) (k .table) (k .bytes) (k .transfer) ok (w .nine) (seven-is (possible-in (k .transfer) R ok)) in
+      let a : dataRead R (k .transfer) ≡ ReadAs false = read-as false ok in
+      let n : byte.Of (byteFrom (sourceOf R) R (k .transfer)) ≡ byte.Of (portByte (seen k)) = sym (ap (λ (y : Told). y .answer) a) ∙ t .0 in
+      let m : byteFrom (sourceOf R) R (k .transfer) ≡ portByte (seen k) = cc in
+      let v : seen (With (regsRead (sourceOf R) R)) ≡ afterRead (seen k) = sym (ap (λ (y : Told). seen (With (y .regs))) a) ∙ t .1 in
+      let r = told-rest (gave (byteFrom (sourceOf R) R (k .transfer))) (calls es (With (regsRead (sourceOf R) R))) q c in
+      let g : play (lent k) es (seen (With (regsRead (sourceOf R) R))) ≡ good (Ends (r .rest)) = ih (With (regsRead (sourceOf R) R)) (r .rest) (whole-read (sourceOf R) w) (r .was) in
+      ap₂ (λ (j : ℕ) (y : World). noting (gave j) (play (lent k) es y)) (sym m) (sym v)
+      ∙ ap (noting (gave (byteFrom (sourceOf R) R (k .transfer)))) g
+      ∙ sym (ap (λ (y : Called). good (Ends y)) (r .is))
+
+  read-goes : (v : Bool) → impossibleIn (k .transfer) R ≡ v → calls (read ∷ es) k ≡ good q → play (lent k) (read ∷ es) (seen k) ≡ good (Ends q)
+  unfolding calls
+  read-goes true e c =
+      let y : Given (ReadAs true) ≡ good q = sym (ap Given (read-as true e)) ∙ c in
+      let z : _≡_ {A = ℕ} 0 1 = cc in absurd (omega arith)
+  read-goes false e c = read-on e (sym (ap Given (read-as false e)) ∙ c)
+
+  -- ---- A byte sent
+
+  abbrev WroteThen : Left → Result Called
+  WroteThen y = wroteThen (wroteAs y) (λ j. telling took (calls es j))
+
+  abbrev I : Inside
+  I = insideOf R (k .floppy .held) (slotOf R (k .table) (k .bytes))
+
+  abbrev LeftAs : Result Sent → Left
+  LeftAs y = leftOf y R (k .floppy .held) (k .table) (k .bytes) (k .transfer)
+
+  -- the host after a byte that was taken
+  abbrev Then : Sent → Host
+  Then y = record {
+    floppy = record {
+      regs = regsShifted (y .effect .shift) (regsAll (y .effect .changes) (regsTaken (y .taking) R));
+      held = heldTaken (y .taking) R (k .floppy .held);
+    };
+    table = tableWith (y .effect .put) (k .table);
+    bytes = dataWith (y .effect .put) (k .bytes);
+    transfer = transferWith (y .effect .shift) (k .transfer);
+  }
+
+  module _ (b : ℕ) (ok : impossibleIn (k .transfer) R ≡ false) where
+    write-as : (y : Result Sent) → sent (lent k) I b ≡ y → dataWrite R b (k .floppy .held) (k .table) (k .bytes) (k .transfer) ≡ LeftAs y
+    unfolding dataWrite
+    write-as y e = ap LeftAs (sym (sent-right R b (k .floppy .held) (k .table) (k .bytes) (k .transfer) ok) ∙ e)
+
+    port-as : (y : Sent) → sent (lent k) I b ≡ good y → writePort (lent k) (seen k) b ≡ good (done (seen k) y)
+    unfolding writePort
+    port-as y e = ap (λ (z : Result Sent). after z (λ v. good (done (seen k) v))) e
+
+    abbrev SeesAs : Left → Result World → Type 0
+    SeesAs l v = Sees R b (k .floppy .held) (k .table) (k .bytes) (k .transfer) ok (w .nine) (seven-is (possible-in (k .transfer) R ok)) (w .held) l v
+
+    then-seen : (y : Sent) → sent (lent k) I b ≡ good y → seen (Then y) ≡ done (seen k) y
+    unfolding leftOf regsOf
+    then-seen y e =
+        let z : SeesAs (LeftAs (good y)) (good (done (seen k) y))
+              = subst (SeesAs (LeftAs (good y))) (port-as y e)
+              (subst (λ (l : Left). SeesAs l (writePort (lent k) (seen k) b)) (write-as (good y) e)
+              (write-seen R b (k .floppy .held) (k .table) (k .bytes) (k .transfer) ok (w .nine) (seven-is (possible-in (k .transfer) R ok)) (w .held))) in
+        z .1
+
+    -- the rooms are those that were lent
+    then-lent : (y : Sent) → Rooms (lent k) (good y) → lent (Then y) ≡ lent k
+    then-lent y q =
+        ap₂ {C = Setting} (λ (n m : ℕ). record { room = n; transfer = m }) (room-kept (k .bytes) (k .transfer) (y .effect .put) (q .1)) (transfer-kept (k .bytes) (k .transfer) (y .effect .shift) (q .0))
+
+    then-fit : (y : Sent) → Rooms (lent k) (good y) → Fit (Then y)
+    then-fit y q =
+        subst (λ (n : ℕ). Whole (Then y .floppy .regs) (Then y .floppy .held) n) (sym (transfer-kept (k .bytes) (k .transfer) (y .effect .shift) (q .0)))
+        (whole-sent (lent k) y R (k .floppy .held) (q .0) w)
+
+    send-on : (y : Result Sent) → sent (lent k) I b ≡ y → calls (send b ∷ es) k ≡ good q → play (lent k) (send b ∷ es) (seen k) ≡ good (Ends q)
+    unfolding calls play leftOf regsOf
+    send-on (refused why) e c =
+        let z : WroteThen (LeftAs (refused why)) ≡ good q = sym (ap WroteThen (write-as (refused why) e)) ∙ c in
+        let n : _≡_ {A = ℕ} 0 1 = cc in absurd (omega arith)
+    send-on (good y) e c =
+        let z : WroteThen (LeftAs (good y)) ≡ good q = sym (ap WroteThen (write-as (good y) e)) ∙ c in
+        let rooms : Rooms (lent k) (good y) = subst (Rooms (lent k)) e (sent-room (lent k) I b) in
+        let r = told-rest took (calls es (Then y)) q z in
+        let g : play (lent (Then y)) es (seen (Then y)) ≡ good (Ends (r .rest)) = ih (Then y) (r .rest) (then-fit y rooms) (r .was) in
+        let f : play (lent k) es (done (seen k) y) ≡ good (Ends (r .rest))
+              = ap₂ (λ (s : Setting) (v : World). play s es v) (sym (then-lent y rooms)) (sym (then-seen y e)) ∙ g in
+        ap (λ (v : Result World). after v (λ u. noting took (play (lent k) es u))) (port-as y e)
+        ∙ ap (noting took) f
+        ∙ sym (ap (λ (v : Called). good (Ends v)) (r .is))
+
+  send-goes : (b : ℕ) (v : Bool) → impossibleIn (k .transfer) R ≡ v → calls (send b ∷ es) k ≡ good q → play (lent k) (send b ∷ es) (seen k) ≡ good (Ends q)
+  unfolding calls
+  send-goes b true e c =
+      let y : refused BadController ≡ good q = sym (ap WroteThen (write-refused R b (k .floppy .held) (k .table) (k .bytes) (k .transfer) e)) ∙ c in
+      let z : _≡_ {A = ℕ} 0 1 = cc in absurd (omega arith)
+  send-goes b false e c = send-on b e (sent (lent k) I b) refl c
+
+-- A sequence of calls that is not refused answers what the machine's run answers, and leaves what it leaves.
+pub calls-play : (es : List Event) (k : Host) (q : Called) → Fit k → calls es k ≡ good q → play (lent k) es (seen k) ≡ good (Ends q)
+calls-play [] k q w c = unfold calls play in (let z : record { answers = []; host = k } ≡ q = cc in ap (λ (y : Called). good (Ends y)) z)
+calls-play (poll ∷ es) k q w c = status-goes es (calls-play es) k q w (impossible (k .floppy .regs)) refl c
+calls-play (read ∷ es) k q w c = read-goes es (calls-play es) k q w (impossibleIn (k .transfer) (k .floppy .regs)) refl c
+calls-play (send b ∷ es) k q w c = send-goes es (calls-play es) k q w b (impossibleIn (k .transfer) (k .floppy .regs)) refl c
