@@ -58,9 +58,12 @@ told-rest a (good c) q e = let z : record { answers = a ∷ c .answers; host = c
 abbrev pub Ends : Called → Played
 Ends q = record { answers = q .answers; world = seen (q .host) }
 
--- a run of the machine with one call more
+-- the machine's run answers and leaves the same; and the host has a controller that is one, and lends the same rooms
+abbrev pub Runs : List Event → Host → Called → Type 0
+Runs es k q = (play (lent k) es (seen k) ≡ good (Ends q)) × (Fit (q .host) × (lent (q .host) ≡ lent k))
+
 abbrev Goes : List Event → Type 0
-Goes es = (k : Host) (q : Called) → Fit k → calls es k ≡ good q → play (lent k) es (seen k) ≡ good (Ends q)
+Goes es = (k : Host) (q : Called) → Fit k → calls es k ≡ good q → Runs es k q
 
 -- ---- Status read
 
@@ -92,7 +95,7 @@ module _ (es : List Event) (ih : Goes es) (k : Host) (q : Called) (w : Fit k) wh
   unfolding statusRead
   status-as v e = ap StatusAs e
 
-  status-on : impossible R ≡ false → telling (showed (statusOf R)) (calls es (With (afterStatusOf R))) ≡ good q → play (lent k) (poll ∷ es) (seen k) ≡ good (Ends q)
+  status-on : impossible R ≡ false → telling (showed (statusOf R)) (calls es (With (afterStatusOf R))) ≡ good q → Runs (poll ∷ es) k q
   unfolding play
   status-on e c =
       let ok : impossibleIn (k .transfer) R ≡ false = possible-both (k .transfer) R e (w .inside) in
@@ -102,12 +105,12 @@ module _ (es : List Event) (ih : Goes es) (k : Host) (q : Called) (w : Fit k) wh
       let m : statusOf R ≡ status (seen k) = cc in
       let v : seen (With (afterStatusOf R)) ≡ afterStatus (seen k) = sym (ap (λ (y : Told). seen (With (y .regs))) a) ∙ t .1 in
       let r = told-rest (showed (statusOf R)) (calls es (With (afterStatusOf R))) q c in
-      let g : play (lent k) es (seen (With (afterStatusOf R))) ≡ good (Ends (r .rest)) = ih (With (afterStatusOf R)) (r .rest) (unfold afterStatusOf in whole-polled _ R (k .floppy .held) (transferRoom (k .transfer)) w) (r .was) in
-      ap₂ (λ (j : ℕ) (y : World). noting (showed j) (play (lent k) es y)) (sym m) (sym v)
-      ∙ ap (noting (showed (statusOf R))) g
-      ∙ sym (ap (λ (y : Called). good (Ends y)) (r .is))
+      let g : Runs es (With (afterStatusOf R)) (r .rest) = ih (With (afterStatusOf R)) (r .rest) (unfold afterStatusOf in whole-polled _ R (k .floppy .held) (transferRoom (k .transfer)) w) (r .was) in (
+        ap₂ (λ (j : ℕ) (y : World). noting (showed j) (play (lent k) es y)) (sym m) (sym v) ∙ ap (noting (showed (statusOf R))) (g .0) ∙ sym (ap (λ (y : Called). good (Ends y)) (r .is)),
+        subst (λ (y : Host). Fit y × (lent y ≡ lent k)) (sym (ap (λ (y : Called). y .host) (r .is))) (g .1),
+      )
 
-  status-goes : (v : Bool) → impossible R ≡ v → calls (poll ∷ es) k ≡ good q → play (lent k) (poll ∷ es) (seen k) ≡ good (Ends q)
+  status-goes : (v : Bool) → impossible R ≡ v → calls (poll ∷ es) k ≡ good q → Runs (poll ∷ es) k q
   unfolding calls
   status-goes true e c =
       let y : Polled (StatusAs true) ≡ good q = sym (ap Polled (status-as true e)) ∙ c in
@@ -133,7 +136,7 @@ module _ (es : List Event) (ih : Goes es) (k : Host) (q : Called) (w : Fit k) wh
   read-as v e = ap ReadAs e
 
   read-on : impossibleIn (k .transfer) R ≡ false → telling (gave (byteFrom (sourceOf R) R (k .transfer))) (calls es (With (regsRead (sourceOf R) R))) ≡ good q
-      → play (lent k) (read ∷ es) (seen k) ≡ good (Ends q)
+      → Runs (read ∷ es) k q
   unfolding play
   read-on ok c =
       let t = read-seen R (k .floppy .held) (k .table) (k .bytes) (k .transfer) ok (w .nine) (seven-is (possible-in (k .transfer) R ok)) in
@@ -142,12 +145,12 @@ module _ (es : List Event) (ih : Goes es) (k : Host) (q : Called) (w : Fit k) wh
       let m : byteFrom (sourceOf R) R (k .transfer) ≡ portByte (seen k) = cc in
       let v : seen (With (regsRead (sourceOf R) R)) ≡ afterRead (seen k) = sym (ap (λ (y : Told). seen (With (y .regs))) a) ∙ t .1 in
       let r = told-rest (gave (byteFrom (sourceOf R) R (k .transfer))) (calls es (With (regsRead (sourceOf R) R))) q c in
-      let g : play (lent k) es (seen (With (regsRead (sourceOf R) R))) ≡ good (Ends (r .rest)) = ih (With (regsRead (sourceOf R) R)) (r .rest) (whole-read (sourceOf R) w) (r .was) in
-      ap₂ (λ (j : ℕ) (y : World). noting (gave j) (play (lent k) es y)) (sym m) (sym v)
-      ∙ ap (noting (gave (byteFrom (sourceOf R) R (k .transfer)))) g
-      ∙ sym (ap (λ (y : Called). good (Ends y)) (r .is))
+      let g : Runs es (With (regsRead (sourceOf R) R)) (r .rest) = ih (With (regsRead (sourceOf R) R)) (r .rest) (whole-read (sourceOf R) w) (r .was) in (
+        ap₂ (λ (j : ℕ) (y : World). noting (gave j) (play (lent k) es y)) (sym m) (sym v) ∙ ap (noting (gave (byteFrom (sourceOf R) R (k .transfer)))) (g .0) ∙ sym (ap (λ (y : Called). good (Ends y)) (r .is)),
+        subst (λ (y : Host). Fit y × (lent y ≡ lent k)) (sym (ap (λ (y : Called). y .host) (r .is))) (g .1),
+      )
 
-  read-goes : (v : Bool) → impossibleIn (k .transfer) R ≡ v → calls (read ∷ es) k ≡ good q → play (lent k) (read ∷ es) (seen k) ≡ good (Ends q)
+  read-goes : (v : Bool) → impossibleIn (k .transfer) R ≡ v → calls (read ∷ es) k ≡ good q → Runs (read ∷ es) k q
   unfolding calls
   read-goes true e c =
       let y : Given (ReadAs true) ≡ good q = sym (ap Given (read-as true e)) ∙ c in
@@ -193,9 +196,9 @@ module _ (es : List Event) (ih : Goes es) (k : Host) (q : Called) (w : Fit k) wh
     unfolding leftOf regsOf
     then-seen y e =
         let z : SeesAs (LeftAs (good y)) (good (done (seen k) y))
-              = subst (SeesAs (LeftAs (good y))) (port-as y e)
-              (subst (λ (l : Left). SeesAs l (writePort (lent k) (seen k) b)) (write-as (good y) e)
-              (write-seen R b (k .floppy .held) (k .table) (k .bytes) (k .transfer) ok (w .nine) (seven-is (possible-in (k .transfer) R ok)) (w .held))) in
+        = subst (SeesAs (LeftAs (good y))) (port-as y e)
+        (subst (λ (l : Left). SeesAs l (writePort (lent k) (seen k) b)) (write-as (good y) e)
+        (write-seen R b (k .floppy .held) (k .table) (k .bytes) (k .transfer) ok (w .nine) (seven-is (possible-in (k .transfer) R ok)) (w .held))) in
         z .1
 
     -- the rooms are those that were lent
@@ -208,7 +211,7 @@ module _ (es : List Event) (ih : Goes es) (k : Host) (q : Called) (w : Fit k) wh
         subst (λ (n : ℕ). Whole (Then y .floppy .regs) (Then y .floppy .held) n) (sym (transfer-kept (k .bytes) (k .transfer) (y .effect .shift) (q .0)))
         (whole-sent (lent k) y R (k .floppy .held) (q .0) w)
 
-    send-on : (y : Result Sent) → sent (lent k) I b ≡ y → calls (send b ∷ es) k ≡ good q → play (lent k) (send b ∷ es) (seen k) ≡ good (Ends q)
+    send-on : (y : Result Sent) → sent (lent k) I b ≡ y → calls (send b ∷ es) k ≡ good q → Runs (send b ∷ es) k q
     unfolding calls play leftOf regsOf
     send-on (refused why) e c =
         let z : WroteThen (LeftAs (refused why)) ≡ good q = sym (ap WroteThen (write-as (refused why) e)) ∙ c in
@@ -217,14 +220,14 @@ module _ (es : List Event) (ih : Goes es) (k : Host) (q : Called) (w : Fit k) wh
         let z : WroteThen (LeftAs (good y)) ≡ good q = sym (ap WroteThen (write-as (good y) e)) ∙ c in
         let rooms : Rooms (lent k) (good y) = subst (Rooms (lent k)) e (sent-room (lent k) I b) in
         let r = told-rest took (calls es (Then y)) q z in
-        let g : play (lent (Then y)) es (seen (Then y)) ≡ good (Ends (r .rest)) = ih (Then y) (r .rest) (then-fit y rooms) (r .was) in
+        let g : Runs es (Then y) (r .rest) = ih (Then y) (r .rest) (then-fit y rooms) (r .was) in
         let f : play (lent k) es (done (seen k) y) ≡ good (Ends (r .rest))
-              = ap₂ (λ (s : Setting) (v : World). play s es v) (sym (then-lent y rooms)) (sym (then-seen y e)) ∙ g in
-        ap (λ (v : Result World). after v (λ u. noting took (play (lent k) es u))) (port-as y e)
-        ∙ ap (noting took) f
-        ∙ sym (ap (λ (v : Called). good (Ends v)) (r .is))
+        = ap₂ (λ (s : Setting) (v : World). play s es v) (sym (then-lent y rooms)) (sym (then-seen y e)) ∙ g .0 in (
+          ap (λ (v : Result World). after v (λ u. noting took (play (lent k) es u))) (port-as y e) ∙ ap (noting took) f ∙ sym (ap (λ (v : Called). good (Ends v)) (r .is)),
+          subst (λ (v : Host). Fit v × (lent v ≡ lent k)) (sym (ap (λ (v : Called). v .host) (r .is))) (g .1 .0, g .1 .1 ∙ then-lent y rooms),
+        )
 
-  send-goes : (b : ℕ) (v : Bool) → impossibleIn (k .transfer) R ≡ v → calls (send b ∷ es) k ≡ good q → play (lent k) (send b ∷ es) (seen k) ≡ good (Ends q)
+  send-goes : (b : ℕ) (v : Bool) → impossibleIn (k .transfer) R ≡ v → calls (send b ∷ es) k ≡ good q → Runs (send b ∷ es) k q
   unfolding calls
   send-goes b true e c =
       let y : refused BadController ≡ good q = sym (ap WroteThen (write-refused R b (k .floppy .held) (k .table) (k .bytes) (k .transfer) e)) ∙ c in
@@ -232,8 +235,11 @@ module _ (es : List Event) (ih : Goes es) (k : Host) (q : Called) (w : Fit k) wh
   send-goes b false e c = send-on b e (sent (lent k) I b) refl c
 
 -- A sequence of calls that is not refused answers what the machine's run answers, and leaves what it leaves.
-pub calls-play : (es : List Event) (k : Host) (q : Called) → Fit k → calls es k ≡ good q → play (lent k) es (seen k) ≡ good (Ends q)
-calls-play [] k q w c = unfold calls play in (let z : record { answers = []; host = k } ≡ q = cc in ap (λ (y : Called). good (Ends y)) z)
+pub calls-play : (es : List Event) (k : Host) (q : Called) → Fit k → calls es k ≡ good q → Runs es k q
+unfolding calls play
+calls-play [] k q w c =
+    let z : record { answers = []; host = k } ≡ q = cc in
+    (ap (λ (y : Called). good (Ends y)) z, subst (λ (y : Host). Fit y × (lent y ≡ lent k)) (ap (λ (y : Called). y .host) z) (w, refl))
 calls-play (poll ∷ es) k q w c = status-goes es (calls-play es) k q w (impossible (k .floppy .regs)) refl c
 calls-play (read ∷ es) k q w c = read-goes es (calls-play es) k q w (impossibleIn (k .transfer) (k .floppy .regs)) refl c
 calls-play (send b ∷ es) k q w c = send-goes es (calls-play es) k q w b (impossibleIn (k .transfer) (k .floppy .regs)) refl c

@@ -125,7 +125,7 @@ still-same a b d e h = record {
   there = ap (λ (y : Address). at (addressOf b) (savedAt y (a .content) d)) e ∙ save-found (addressOf b) (a .content) d ∙ ap (mapFound (withContent (a .content))) (h .there);
 }
 
-still-other : (a b : Save) (d : Disk) → (addressOf a ≡ addressOf b → ⊥) → IsSave b d → IsSave b (savedBy a d)
+pub still-other : (a b : Save) (d : Disk) → (addressOf a ≡ addressOf b → ⊥) → IsSave b d → IsSave b (savedBy a d)
 unfolding addressOf
 still-other a b d e h = record {
   writes = h .writes;

@@ -110,8 +110,9 @@ module _ (s : Setting) where
       fits : (made : Disk) (new : Result Disk) → fitting (s .room) made ≡ new → RoomE (after new (λ y. puts [] y (u unit ∷ 0 ∷ 0 ∷ 0 ∷ 0 ∷ 0 ∷ n ∷ [])))
       fits made (refused why) e = tt
       fits made (good y) e =
-        let w = fitting-good (s .room) made y e in
-        (tt, subst (λ (v : Disk). byteCount v ≤ s .room) (w .0) (w .1 .bytes))
+          let w = fitting-good (s .room) made y e in
+          (tt, subst (λ (v : Disk). byteCount v ≤ s .room) (w .0) (w .1 .bytes))
+
       go : (made : Disk) → RoomE (after (fitting (s .room) made) (λ y. puts [] y (u unit ∷ 0 ∷ 0 ∷ 0 ∷ 0 ∷ 0 ∷ n ∷ [])))
       go made = fits made (fitting (s .room) made) refl
 

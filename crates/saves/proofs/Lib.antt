@@ -6,3 +6,4 @@ pub mod Demand
 pub mod ReadBack
 pub mod Kept
 pub mod Carried
+pub mod Gets
