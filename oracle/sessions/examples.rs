@@ -44,6 +44,38 @@ pub fn add(list: &mut List) {
         let command = read_data(0, [0, 0, 1, 2], eot);
         list.add_fresh(name, &[send(&command), read(4), read(bytes - 4), read(7)]);
     }
+    saves(list);
+}
+
+/// Saves to a fresh disk, as in `crates/saves/proofs/Witness.antt`: one that is read back,
+/// two to one address, and two to two addresses in either order.
+fn saves(list: &mut List) {
+    let back = [send(&read_data(0, [7, 0, 3, 2], 3)), read(512), read(7)];
+    let calls = [&save(3, 0xaa)[..], &back].concat();
+    list.add_fresh("example-save-and-read-back", &calls);
+    for (name, first, second) in [
+        ("example-save-twice", (3, 0xaa), (3, 0x55)),
+        ("example-save-two-addresses", (3, 0xaa), (4, 0x55)),
+        ("example-save-in-the-other-order", (4, 0x55), (3, 0xaa)),
+    ] {
+        let calls = [save(first.0, first.1), save(second.0, second.1)].concat();
+        list.add_fresh(name, &calls);
+    }
+}
+
+/// A save to cylinder 7: a Seek, a Write Data and 512 bytes, with reads between them.
+fn save(r: u8, byte: u8) -> [Call; 6] {
+    [
+        send(&[0x0f, 0x00, 0x07]),
+        status(2),
+        send(&[0x45, 0x00, 0x07, 0x00, r, 0x02, r, 0x2a, 0xff]),
+        read(1),
+        Call::Send {
+            times: 512,
+            bytes: vec![byte],
+        },
+        read(7),
+    ]
 }
 
 /// A sector of size n is formatted and read: the look tells how many bytes.

@@ -7,3 +7,4 @@ pub mod ReadBack
 pub mod Kept
 pub mod Carried
 pub mod Gets
+pub mod Witness
