@@ -1,25 +1,35 @@
 -- The theorems used: two saves to a fresh disk, and a Read Data of the first, none of them refused. The same bytes are sent in the sessions `example-save-..` of `crates/ports`.
-use mathlib.Core.Path.{_≡_, refl, sym, ap, _∙_}
-use Prim.Native.Nat.{ℕ, _+_, _≤_}
+use mathlib.Core.Path.{_≡_, refl, sym, ap, subst, _∙_}
+use Prim.Native.Nat.{ℕ, zero, suc, _+_, _≤_, min}
 use native.Mathlib.Omega.{arith}
 use mathlib.Core.Bool.{Bool, true, false}
 use mathlib.Core.List.{List, [], _∷_, _++_}
-use lib.ListN.{length, replicate}
+use lib.ListN.{length, take, replicate, length-replicate}
 use Rattle.image.specs.Refusals.{Result, refused, good}
-use Rattle.image.specs.Model.{sizeOf, total, Disk}
+use Rattle.image.specs.Model.{sizeOf, total, Disk, sectorCount, byteCount}
 use Rattle.store.specs.Find.{findFrom}
+use Rattle.buffer.specs.Over.{over}
 use Rattle.store.specs.Search.{sectorAt}
+use Rattle.store.specs.Store.{roomOf, transferRoom, tableOf, dataOf, diskOf}
+use Rattle.store.proofs.Rounds.{laid-back}
+use borrow.Author.Tests.{leb-true}
 use Rattle.store.specs.Fresh.{blank, blanksFrom, formatted, freshFrom, fresh}
 use Rattle.disk.specs.Change.{change, saved}
 use Rattle.registers.specs.Boxes.{Setting, Holds, World, newWorld, taken, changed, allChanged, putIn, shifted}
 use Rattle.registers.specs.Table.{maskRows, rows, kindBy, kindOf}
-use Rattle.registers.specs.Ports.{changeDisk}
-use Rattle.floppy.specs.Commands.{seekIf, startAt, writeData, writeReply, saveAt, written, obeyed}
+use Rattle.registers.specs.Ports.{afterRead, changeDisk}
+use Rattle.registers.specs.View.{insideOf, impossible, impossibleIn}
+use Rattle.registers.specs.Calls.{diskSet}
+use Rattle.floppy.specs.Calls.{newFloppy}
+use Rattle.floppy.specs.Commands.{withBit, seekIf, startAt, writeData, writeReply, saveAt, written, obeyed}
 use Rattle.floppy.specs.Machine.{commandIf, commandByte, dataIf, dataByte, byteFor, sent, done, writePort}
-use Rattle.saves.specs.Events.{Event, send, Played, play, sentIn}
-use Rattle.saves.specs.Words.{Ready, Address, Save, bytesOf, addressOf, IsSave, savedBy, ReadsBack}
+use Rattle.saves.specs.Events.{Event, read, send, Played, play, sentIn}
+use Rattle.saves.specs.Words.{Ready, Address, Save, bytesOf, addressOf, IsSave, savedBy, ReadsBack, readBytes, replyTo, LosesNone, dataReads, givenIn}
+use Rattle.saves.specs.Hosts.{Host, Called, calls, Sound, seen}
 use Rattle.saves.proofs.Places.{Only}
 use Rattle.saves.proofs.Demand.{save-touches, second-alone, either-order}
+use Rattle.saves.proofs.ReadBack.{read-back}
+use Rattle.saves.proofs.Gets.{storeOf, save-calls, second-calls, order-calls, back-calls}
 
 -- a new controller with a fresh disk in, and all the room that there can be
 abbrev start : World
@@ -105,12 +115,24 @@ pub example-touches : (p : Played) → play ample (sendAll (bytesOf example)) st
 unfolding example-is
 example-touches p ran = save-touches ample example fresh start (sendAll (bytesOf example)) p start-ready example-is (sent-all (bytesOf example)) ran
 
+-- the addresses of example and again are one, those of example and other two
+same : addressOf example ≡ addressOf again
+unfolding example again addressOf
+same = refl
+
+numbers : addressOf example ≡ addressOf other → _≡_ {A = ℕ} 3 4
+unfolding example other addressOf
+numbers e = ap (λ (a : Address). a .id .r) e
+
+differ : addressOf example ≡ addressOf other → ⊥
+differ e = let z : _≡_ {A = ℕ} 3 4 = numbers e in absurd (omega arith)
+
 -- the second to sector 3 alone counts
 pub example-second : (p q r : Played) → play ample (sendAll (bytesOf example)) start ≡ good p → play ample (sendAll (bytesOf again)) (p .world) ≡ good q
     → play ample (sendAll (bytesOf again)) start ≡ good r → q .world .inside .slot ≡ r .world .inside .slot
 example-second p q r ra rb rc =
     second-alone ample example again fresh start (sendAll (bytesOf example)) (sendAll (bytesOf again)) (sendAll (bytesOf again)) p q r start-ready example-is again-is
-    (unfold example again addressOf in refl) (sent-all (bytesOf example)) ra (sent-all (bytesOf again)) rb (sent-all (bytesOf again)) rc
+    same (sent-all (bytesOf example)) ra (sent-all (bytesOf again)) rb (sent-all (bytesOf again)) rc
 
 -- sectors 3 and 4 in either order
 pub example-order : (p q p′ q′ : Played) → play ample (sendAll (bytesOf example)) start ≡ good p → play ample (sendAll (bytesOf other)) (p .world) ≡ good q
@@ -118,12 +140,6 @@ pub example-order : (p q p′ q′ : Played) → play ample (sendAll (bytesOf ex
 example-order p q p′ q′ ra rb rb′ ra′ =
     either-order ample example other fresh start (sendAll (bytesOf example)) (sendAll (bytesOf other)) (sendAll (bytesOf other)) (sendAll (bytesOf example)) p q p′ q′ start-ready example-is other-is
     differ (sent-all (bytesOf example)) ra (sent-all (bytesOf other)) rb (sent-all (bytesOf other)) rb′ (sent-all (bytesOf example)) ra′
-  where
-    numbers : addressOf example ≡ addressOf other → _≡_ {A = ℕ} 3 4
-    numbers e = unfold example other addressOf in ap (λ (a : Address). a .id .r) e
-
-    differ : addressOf example ≡ addressOf other → ⊥
-    differ e = let z : _≡_ {A = ℕ} 3 4 = numbers e in absurd (omega arith)
 
 -- and both are not refused
 both-run : isGood (play ample (sendAll (bytesOf example ++ bytesOf other)) start) ≡ true
@@ -134,3 +150,87 @@ both-run = refl
 pub example-back : ReadsBack example 0x46 0 3
 unfolding example kindOf kindBy rows maskRows
 example-back = record { reads = refl; drive-0 = refl; same-head = refl; alone = omega arith }
+
+-- so many data-port reads, and nothing else: they lose no byte
+unfoldable pub reads : ℕ → List Event
+reads zero = []
+reads (suc n) = read ∷ reads n
+
+reads-lose-none : (n : ℕ) (w : World) → LosesNone (reads n) w
+unfolding LosesNone reads
+reads-lose-none zero w = tt
+reads-lose-none (suc n) w = reads-lose-none n (afterRead w)
+
+reads-count : (n : ℕ) → dataReads (reads n) ≡ n
+unfolding dataReads reads
+reads-count zero = refl
+reads-count (suc n) = ap suc (reads-count n)
+
+-- 519 reads give 512 bytes AA and the reply 40 80 00 07 00 03 02
+pub example-read : (w : World) (p q r : Played) → play ample (sendAll (bytesOf example)) start ≡ good p
+    → play ample (sendAll (readBytes example 0x46 0 3 0x2A)) (p .world) ≡ good q → writePort ample (q .world) 0xFF ≡ good w → play ample (reads 519) w ≡ good r
+    → take 519 (givenIn (r .answers)) ≡ replicate 512 0xAA ++ (0x40 ∷ 0x80 ∷ 0x00 ∷ 0x07 ∷ 0x00 ∷ 0x03 ∷ 0x02 ∷ [])
+unfolding example example-is replyTo withBit
+example-read w p q r ra rb last rg =
+    let n : length {A = ℕ} (replicate 512 0xAA) + 7 ≤ dataReads (reads 519) = omega (arith, length-replicate {A = ℕ} 512 0xAA, reads-count 519) in
+    read-back ample example fresh 0x46 0 3 0x2A 0xFF start w (sendAll (bytesOf example)) (sendAll (readBytes example 0x46 0 3 0x2A)) (reads 519) p q r
+    start-ready example-is (sent-all (bytesOf example)) ra example-back (sent-all (readBytes example 0x46 0 3 0x2A)) rb last (reads-lose-none 519 w) n rg
+
+-- ---- and on the calls
+
+-- a fresh disk is what a store holds in which it is laid
+fresh-long : (length fresh ≤ 204) × ((sectorCount fresh ≤ 2048) × (byteCount fresh ≤ 1048576))
+unfolding fresh freshFrom formatted blanksFrom sizeOf total
+fresh-long = (leb-true _ _ refl, (leb-true _ _ refl, leb-true _ _ refl))
+
+room-is : roomOf (replicate 1048576 0) ≡ 1048576
+unfolding roomOf
+room-is = ap (λ (n : ℕ). min n 1048576) (length-replicate {A = ℕ} 1048576 0)
+
+fresh-laid : diskOf (over (replicate 17609 0) 0 (tableOf fresh)) (over (replicate 1048576 0) 0 (dataOf fresh)) ≡ good fresh
+fresh-laid =
+    laid-back (replicate 17609 0) (replicate 1048576 0) fresh (length-replicate {A = ℕ} 17609 0) (fresh-long .0) (fresh-long .1 .0) (subst (λ (n : ℕ). byteCount fresh ≤ n) (sym room-is) (fresh-long .1 .1))
+
+-- a new controller with the disk in, and a store in which a fresh disk is laid
+unfoldable pub host : Host
+host = record {
+  floppy = record { regs = diskSet true (newFloppy .regs) .regs; held = newFloppy .held };
+  table = over (replicate 17609 0) 0 (tableOf fresh);
+  bytes = over (replicate 1048576 0) 0 (dataOf fresh);
+  transfer = replicate 65536 0;
+}
+
+pub host-sound : Sound host
+unfolding host newFloppy diskSet impossible impossibleIn kindOf kindBy rows maskRows transferRoom
+host-sound = record { nine = refl; seven = refl; held = length-replicate {A = ℕ} 1024 0; possible = refl }
+
+pub host-ready : Ready (seen host) fresh
+unfolding host newFloppy diskSet impossible kindOf kindBy rows maskRows insideOf
+host-ready = record { disk-in = ap Holds fresh-laid; nothing-sent = refl; no-write = refl }
+
+-- the store then holds the disk on which sector 3 of cylinder 7 has the bytes
+pub host-saves : (q : Called) → calls (sendAll (bytesOf example)) host ≡ good q → storeOf (q .host) ≡ good (savedBy example fresh)
+host-saves q ran = save-calls example fresh host (sendAll (bytesOf example)) q host-sound host-ready example-is (sent-all (bytesOf example)) ran .0
+
+-- the second to sector 3 alone counts, and sectors 3 and 4 come in either order
+pub host-second : (p q r : Called) → calls (sendAll (bytesOf example)) host ≡ good p → calls (sendAll (bytesOf again)) (p .host) ≡ good q
+    → calls (sendAll (bytesOf again)) host ≡ good r → storeOf (q .host) ≡ storeOf (r .host)
+host-second p q r ra rb rc =
+    second-calls example again fresh host (sendAll (bytesOf example)) (sendAll (bytesOf again)) (sendAll (bytesOf again)) p q r host-sound host-ready example-is again-is same
+    (sent-all (bytesOf example)) ra (sent-all (bytesOf again)) rb (sent-all (bytesOf again)) rc
+
+pub host-order : (p q p′ q′ : Called) → calls (sendAll (bytesOf example)) host ≡ good p → calls (sendAll (bytesOf other)) (p .host) ≡ good q
+    → calls (sendAll (bytesOf other)) host ≡ good p′ → calls (sendAll (bytesOf example)) (p′ .host) ≡ good q′ → storeOf (q .host) ≡ storeOf (q′ .host)
+host-order p q p′ q′ ra rb rb′ ra′ =
+    order-calls example other fresh host (sendAll (bytesOf example)) (sendAll (bytesOf other)) (sendAll (bytesOf other)) (sendAll (bytesOf example)) p q p′ q′ host-sound host-ready example-is other-is
+    differ (sent-all (bytesOf example)) ra (sent-all (bytesOf other)) rb (sent-all (bytesOf other)) rb′ (sent-all (bytesOf example)) ra′
+
+-- and 519 data-port reads give the bytes and the reply
+pub host-back : (p q v r : Called) → calls (sendAll (bytesOf example)) host ≡ good p → calls (sendAll (readBytes example 0x46 0 3 0x2A)) (p .host) ≡ good q
+    → calls (send 0xFF ∷ []) (q .host) ≡ good v → calls (reads 519) (v .host) ≡ good r
+    → take 519 (givenIn (r .answers)) ≡ replicate 512 0xAA ++ (0x40 ∷ 0x80 ∷ 0x00 ∷ 0x07 ∷ 0x00 ∷ 0x03 ∷ 0x02 ∷ [])
+unfolding example example-is replyTo withBit
+host-back p q v r ra rb rl rg =
+    let n : length {A = ℕ} (replicate 512 0xAA) + 7 ≤ dataReads (reads 519) = omega (arith, length-replicate {A = ℕ} 512 0xAA, reads-count 519) in
+    back-calls example fresh 0x46 0 3 0x2A 0xFF host (sendAll (bytesOf example)) (sendAll (readBytes example 0x46 0 3 0x2A)) (reads 519) p q v r
+    host-sound host-ready example-is (sent-all (bytesOf example)) ra example-back (sent-all (readBytes example 0x46 0 3 0x2A)) rb rl (reads-lose-none 519 (seen (v .host))) n rg
