@@ -7,6 +7,7 @@ use mathlib.Core.Bool.{Bool, true, false, cond, _&&_}
 use mathlib.Core.List.{List, [], _∷_}
 use lib.Dec.{eqb, leb}
 use borrow.Author.Tests.{leb-true, ne-eqb}
+use Rattle.store.proofs.Checks.{and-fst, and-snd}
 use Rattle.registers.specs.Table.{Row, maskRows, rows, kindBy, kindOf, bytesFor}
 use Rattle.registers.specs.declared.kind.Kind.{Kind}
 use Rattle.registers.specs.declared.kind.Kind.the-variants.{Specify, SenseDrive, Recalibrate, SenseInterrupt, SeekTo, Version, ReadData, ReadDeleted, WriteData, ReadId, FormatTrack, Unserved, Invalid}
@@ -36,21 +37,13 @@ pub others-are : others 256 ≡ 187
 unfolding others passing rows maskRows
 others-are = refl
 
-and-left : (a b : Bool) → (a && b) ≡ true → a ≡ true
-and-left true b e = refl
-and-left false b e = cc
-
-and-right : (a b : Bool) → (a && b) ≡ true → b ≡ true
-and-right true b e = e
-and-right false b e = cc
-
 below : (n : ℕ) → oneEach n ≡ true → (c : ℕ) → c < n → passing rows c ≤ 1
 unfolding oneEach
 below zero e c h = absurd (omega arith)
-below (suc n) e c h = go (ℕ-discrete c n) (below n (and-right (leb (passing rows n) 1) (oneEach n) e) c)
+below (suc n) e c h = go (ℕ-discrete c n) (below n (and-snd (leb (passing rows n) 1) (oneEach n) e) c)
   where
     go : Dec (c ≡ n) → (c < n → passing rows c ≤ 1) → passing rows c ≤ 1
-    go (yes q) ih = rw q (leb-true (passing rows n) 1 (and-left (leb (passing rows n) 1) (oneEach n) e))
+    go (yes q) ih = rw q (leb-true (passing rows n) 1 (and-fst (leb (passing rows n) 1) (oneEach n) e))
     go (no q) ih = ih (omega arith)
 
 pub no-overlap : (c : ℕ) → c < 256 → passing rows c ≤ 1

@@ -9,6 +9,7 @@ use lib.Dec.{eqb}
 use borrow.Author.Tests.{eqb-true}
 use Rattle.image.specs.Model.{Sector, Track, Disk}
 use Rattle.image.specs.declared.id.SectorId.{SectorId}
+use Rattle.store.proofs.Checks.{and-fst, and-snd}
 use Rattle.store.specs.Find.{Found, nothing, found, findFrom, find}
 use Rattle.store.specs.Search.{isTrack, isSector, inTrack, sectorAt}
 use Rattle.disk.specs.Change.{change, withContent, savedIn, saved}
@@ -21,26 +22,18 @@ at a d = sectorAt d (a .side) (a .cylinder) (a .id)
 
 -- ---- what the tests say
 
-and-left : (a b : Bool) → (a && b) ≡ true → a ≡ true
-and-left true b e = refl
-and-left false b e = cc
-
-and-right : (a b : Bool) → (a && b) ≡ true → b ≡ true
-and-right true b e = e
-and-right false b e = cc
-
 is-track : (s c : ℕ) (t : Track) → isTrack s c t ≡ true → (t .cylinder ≡ c) × (t .side ≡ s)
 is-track s c t e =
-    (eqb-true (t .cylinder) c (and-left (eqb (t .cylinder) c) (eqb (t .side) s) e), eqb-true (t .side) s (and-right (eqb (t .cylinder) c) (eqb (t .side) s) e))
+    (eqb-true (t .cylinder) c (and-fst (eqb (t .cylinder) c) (eqb (t .side) s) e), eqb-true (t .side) s (and-snd (eqb (t .cylinder) c) (eqb (t .side) s) e))
 
 pub is-sector : (i : SectorId) (s : Sector) → isSector i s ≡ true → s .id ≡ i
 is-sector i s e =
-    let r1 = and-right (eqb (s .id .c) (i .c)) (eqb (s .id .h) (i .h) && (eqb (s .id .r) (i .r) && eqb (s .id .n) (i .n))) e in
-    let r2 = and-right (eqb (s .id .h) (i .h)) (eqb (s .id .r) (i .r) && eqb (s .id .n) (i .n)) r1 in
-    let e1 : s .id .c ≡ i .c = eqb-true (s .id .c) (i .c) (and-left (eqb (s .id .c) (i .c)) (eqb (s .id .h) (i .h) && (eqb (s .id .r) (i .r) && eqb (s .id .n) (i .n))) e) in
-    let e2 : s .id .h ≡ i .h = eqb-true (s .id .h) (i .h) (and-left (eqb (s .id .h) (i .h)) (eqb (s .id .r) (i .r) && eqb (s .id .n) (i .n)) r1) in
-    let e3 : s .id .r ≡ i .r = eqb-true (s .id .r) (i .r) (and-left (eqb (s .id .r) (i .r)) (eqb (s .id .n) (i .n)) r2) in
-    let e4 : s .id .n ≡ i .n = eqb-true (s .id .n) (i .n) (and-right (eqb (s .id .r) (i .r)) (eqb (s .id .n) (i .n)) r2) in
+    let r1 = and-snd (eqb (s .id .c) (i .c)) (eqb (s .id .h) (i .h) && (eqb (s .id .r) (i .r) && eqb (s .id .n) (i .n))) e in
+    let r2 = and-snd (eqb (s .id .h) (i .h)) (eqb (s .id .r) (i .r) && eqb (s .id .n) (i .n)) r1 in
+    let e1 : s .id .c ≡ i .c = eqb-true (s .id .c) (i .c) (and-fst (eqb (s .id .c) (i .c)) (eqb (s .id .h) (i .h) && (eqb (s .id .r) (i .r) && eqb (s .id .n) (i .n))) e) in
+    let e2 : s .id .h ≡ i .h = eqb-true (s .id .h) (i .h) (and-fst (eqb (s .id .h) (i .h)) (eqb (s .id .r) (i .r) && eqb (s .id .n) (i .n)) r1) in
+    let e3 : s .id .r ≡ i .r = eqb-true (s .id .r) (i .r) (and-fst (eqb (s .id .r) (i .r)) (eqb (s .id .n) (i .n)) r2) in
+    let e4 : s .id .n ≡ i .n = eqb-true (s .id .n) (i .n) (and-snd (eqb (s .id .r) (i .r)) (eqb (s .id .n) (i .n)) r2) in
     λ k. record { c = e1 k; h = e2 k; r = e3 k; n = e4 k }
 
 true-or-false : (a b : Bool) → (b ≡ true → a ≡ true → ⊥) → a ≡ true → b ≡ false

@@ -31,11 +31,11 @@ module _ (v a b : ℕ) (e : v ≡ a) where
   test-last = ap (λ (n : ℕ). eqb n b) e
 
 -- both parts of one that holds
-and-fst : (x y : Bool) → (x && y) ≡ true → x ≡ true
+pub and-fst : (x y : Bool) → (x && y) ≡ true → x ≡ true
 and-fst true y e = refl
 and-fst false y e = e
 
-and-snd : (x y : Bool) → (x && y) ≡ true → y ≡ true
+pub and-snd : (x y : Bool) → (x && y) ≡ true → y ≡ true
 and-snd true y e = e
 and-snd false y e = let z : _≡_ {A = ℕ} 0 1 = cc in absurd (omega arith)
 
