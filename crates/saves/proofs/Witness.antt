@@ -9,8 +9,8 @@ use Rattle.image.specs.Refusals.{Result, refused, good}
 use Rattle.image.specs.Model.{sizeOf, total, Disk, sectorCount, byteCount}
 use Rattle.store.specs.Find.{findFrom}
 use Rattle.buffer.specs.Over.{over}
-use Rattle.store.specs.Search.{sectorAt}
-use Rattle.store.specs.Store.{roomOf, transferRoom, tableOf, dataOf, diskOf}
+use Rattle.store.specs.Search.{sectorAt, runFrom, readAt}
+use Rattle.store.specs.Store.{roomOf, transferRoom, tableOf, contents, dataOf, diskOf}
 use Rattle.store.proofs.Rounds.{laid-back}
 use borrow.Author.Tests.{leb-true}
 use Rattle.store.specs.Fresh.{blank, blanksFrom, formatted, freshFrom, fresh}
@@ -21,7 +21,7 @@ use Rattle.registers.specs.Ports.{afterRead, changeDisk}
 use Rattle.registers.specs.View.{insideOf, impossible, impossibleIn}
 use Rattle.registers.specs.Calls.{diskSet}
 use Rattle.floppy.specs.Calls.{newFloppy}
-use Rattle.floppy.specs.Commands.{withBit, seekIf, startAt, writeData, writeReply, saveAt, written, obeyed}
+use Rattle.floppy.specs.Commands.{withBit, seekIf, servedAs, readData, startAt, writeData, writeReply, saveAt, written, obeyed}
 use Rattle.floppy.specs.Machine.{commandIf, commandByte, dataIf, dataByte, byteFor, sent, done, writePort}
 use Rattle.saves.specs.Events.{Event, read, send, Played, play, sentIn}
 use Rattle.saves.specs.Words.{Ready, Address, Save, bytesOf, addressOf, IsSave, savedBy, ReadsBack, readBytes, replyTo, LosesNone, dataReads, givenIn}
@@ -150,6 +150,11 @@ both-run = refl
 pub example-back : ReadsBack example 0x46 0 3
 unfolding example kindOf kindBy rows maskRows
 example-back = record { reads = refl; drive-0 = refl; same-head = refl; alone = omega arith }
+
+-- the save and the Read Data, whole, are not refused
+back-runs : isGood (play ample (sendAll (bytesOf example ++ (readBytes example 0x46 0 3 0x2A ++ (0xFF ∷ [])))) start) ≡ true
+unfolding isGood play sendAll bytesOf example changeDisk newWorld taken changed allChanged putIn shifted maskRows rows kindBy kindOf seekIf startAt writeData writeReply saveAt written obeyed commandIf commandByte dataIf dataByte byteFor sent done writePort fresh freshFrom formatted blanksFrom sizeOf sectorAt findFrom change saved total readBytes readAt runFrom contents servedAs readData
+back-runs = refl
 
 -- so many data-port reads, and nothing else: they lose no byte
 unfoldable pub reads : ℕ → List Event
