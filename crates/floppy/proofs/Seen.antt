@@ -34,10 +34,12 @@ use Rattle.registers.specs.declared.regs.Seek.{Seek}
 use Rattle.registers.specs.declared.regs.Seek.the-variants.{Idle, Running, Done}
 use Rattle.registers.specs.Boxes.{Setting, Slot, Empty, Holds, Writing, Inside, Front, World, newWorld, Taking, Add, Hold, Change, Clear, MoveTo, Turn, Start, Finish, Shift, Stay, Reply, ReplyIfNone, Seeking, Interrupt, Serve, Effect, Sent, withCommand, withWrite, withSlot, holding, taken, changed, allChanged, putIn, withReply, ifNone, interrupted, shifted}
 use Rattle.registers.specs.Table.{kindOf, bytesFor}
-use Rattle.registers.specs.View.{settingOf, slotIf, slotOf, writingIf, insideOf, frontOf, worldOf, impossibleIn}
+use Rattle.registers.specs.View.{settingOf, slotIf, slotOf, writingIf, insideOf, frontOf, worldOf, impossible, impossibleIn}
+use Rattle.registers.specs.declared.regs.Flag.the-variants as flag
+use Rattle.registers.specs.Calls.{diskIn}
 use Rattle.registers.specs.Settle.{replied, regsTaken, heldTaken, regsChanged, regsAll, ifUnread, interruptedBy, regsShifted, regsOf}
 use Rattle.registers.proofs.Numbers.{possible, possible-in, count-few, taken-few}
-use Rattle.floppy.specs.Commands.{byte, idOf, driveOf, headOf, inDrive, named, puts, seekIf, readData, writeData, readId, saveAt, written, formatTrack, obeyed, writeReply, u}
+use Rattle.floppy.specs.Commands.{byte, idOf, driveOf, headOf, ready, inDrive, named, puts, seekIf, readData, writeData, readId, saveAt, written, formatTrack, obeyed, writeReply, u}
 use Rattle.floppy.specs.Machine.{sends, clearing, commandIf, commandByte, dataIf, dataByte, sent, done, writePort}
 use Rattle.floppy.specs.Lent.{tableWith, dataWith, transferWith, Left, left, leftOf}
 use Rattle.floppy.specs.Calls.{sentTo, dataWrite, newFloppy}
@@ -342,3 +344,12 @@ write-refused r b h t d x e = rw e
 pub new-seen : (t d x : List ℕ) → worldOf (newFloppy .regs) (newFloppy .held) t d x ≡ newWorld
 unfolding newFloppy newWorld insideOf frontOf
 new-seen t d x = refl
+
+-- whether a disk is in, seen: whether there is one in the drive
+pub disk-told : (r : Regs) (h t d x : List ℕ) → impossible r ≡ false → diskIn r ≡ flag.Of (ready (worldOf r h t d x .inside .slot))
+unfolding diskIn insideOf
+disk-told r h t d x ok = rw ok (ap flag.Of (is-in (r .drive .disk) (diskOf t d)))
+  where
+    is-in : (f : Bool) (disk : Result Disk) → f ≡ ready (slotIf f disk)
+    is-in true disk = refl
+    is-in false disk = refl
