@@ -1,32 +1,18 @@
--- What the controller's calls answer and leave. `proofs/Seen.antt` proves that this, seen as boxes, is the machine.
+-- What the calls on a whole controller, its registers and the held bytes, answer and leave: those of the registers (`crates/registers`) and of a byte sent
+-- (`crates/commands`), with the held bytes beside them.
 use Prim.Native.Nat.{ℕ}
-use mathlib.Core.Bool.{Bool, true, false, not}
+use mathlib.Core.Bool.{false}
 use mathlib.Core.List.{List}
 use lib.ListN.{replicate}
-use Rattle.image.specs.Refusals.{Result, need}
-use Rattle.image.specs.declared.refusal.Refusal.the-variants.{BadController}
+use Rattle.store.specs.declared.answer.Done.{Done}
 use Rattle.floppy.specs.declared.Floppy.{Floppy}
 use Rattle.floppy.specs.declared.Shown.{Shown}
 use Rattle.floppy.specs.declared.After.{After}
-use Rattle.registers.specs.declared.regs.Regs.{Regs}
+use Rattle.registers.specs.declared.regs.Byte.{Byte}
 use Rattle.registers.specs.declared.regs.Seek.the-variants.{Idle}
 use Rattle.registers.specs.declared.regs.Written.{Written}
 use Rattle.registers.specs.declared.regs.Told.{Told}
-use Rattle.registers.specs.Boxes.{Sent}
-use Rattle.registers.specs.View.{settingOf, slotOf, insideOf, impossibleIn}
-use Rattle.floppy.specs.Machine.{sent}
-use Rattle.floppy.specs.Lent.{Left, left, leftOf}
-
--- ---- A byte sent
-
--- 1, or what the machine says of the boxes that are seen
-unfoldable pub sentTo : Regs → ℕ → List ℕ → List ℕ → List ℕ → List ℕ → Result Sent
-sentTo r b h t d x = need (not (impossibleIn x r)) BadController (sent (settingOf d x) (insideOf r h (slotOf r t d)) b)
-
-unfoldable pub dataWrite : Regs → ℕ → List ℕ → List ℕ → List ℕ → List ℕ → Left
-dataWrite r b h t d x = leftOf (sentTo r b h t d x) r h t d x
-
--- ---- The same on a whole controller: its registers and the held bytes
+use Rattle.commands.specs.Lent.{Left, left}
 
 -- `Floppy::new`: no number but 0, no flag but off
 unfoldable pub newFloppy : Floppy
@@ -48,12 +34,19 @@ newFloppy = record {
   held = replicate 1024 0;
 }
 
+-- an answer and the controller then
+abbrev pub shown : Byte → Floppy → Shown
+shown b f = record { byte = b; floppy = f }
+
+abbrev pub after : Done → Floppy → After
+after d f = record { done = d; floppy = f }
+
 -- a port read, and a change, leave the held bytes
 abbrev pub shownAs : Told → List ℕ → Shown
-shownAs a h = record { byte = a .answer; floppy = record { regs = a .regs; held = h } }
+shownAs a h = shown (a .answer) (record { regs = a .regs; held = h })
 
 abbrev pub afterAs : Written → List ℕ → After
-afterAs a h = record { done = a .done; floppy = record { regs = a .regs; held = h } }
+afterAs a h = after (a .done) (record { regs = a .regs; held = h })
 
 -- what a byte sent leaves: the answer with the controller, the table, the data and the transfer buffer
 pub data Wrote : Type 0 where

@@ -1,7 +1,4 @@
 // The floppy controller uPD765A, over a disk that is kept in a lent table and a lent data buffer. What is read lies in a lent transfer buffer.
-mod command;
-mod write;
-
 use image::SectorId;
 use registers::Byte;
 use registers::Drive;
@@ -11,7 +8,8 @@ use registers::Regs;
 use registers::Seek;
 use store::Done;
 ghost use mathlib.Core.Path.{_≡_};
-ghost use Rattle.floppy.specs.Calls.{newFloppy, dataWrite, shownAs, afterAs, wrote, wroteAs};
+ghost use Rattle.floppy.specs.Calls.{newFloppy, shown, shownAs, after, afterAs, wrote, wroteAs};
+ghost use Rattle.commands.specs.Calls.{dataWrite};
 ghost use Rattle.registers.specs.Calls.{statusRead, dataRead, motorSet, diskSet, motorOf, trackOf, diskIn};
 
 // A controller: its registers, and beside them the bytes of an unfinished write.
@@ -121,12 +119,12 @@ impl Floppy {
     }
 
     // A byte sent to the data port. A refused one is not taken and may be sent again.
-    pub fn write_cmd(self, b: u8, table: &mut [u8], bytes: &mut [u8], transfer: &mut [u8]) -> After
+    pub fn write_step(self, b: u8, table: &mut [u8], bytes: &mut [u8], transfer: &mut [u8]) -> After
         ensures { λ r. ⌜ wrote r (now (table .exit)) (now (bytes .exit)) (now (transfer .exit)) ≡ wroteAs (dataWrite (self .regs) b (self .held) (now (table .entry)) (now (bytes .entry)) (now (transfer .entry))) ⌝ }
     {
         let regs = self.regs;
         let mut held = self.held;
-        let a = write::write_cmd(regs, b, &mut held, table, bytes, transfer);
+        let a = commands::write_cmd(regs, b, &mut held, table, bytes, transfer);
         let done = a.done;
         let after = a.regs;
         let floppy = Floppy { regs: after, held };
@@ -134,7 +132,7 @@ impl Floppy {
     }
 
     // A read of the data port.
-    pub fn read_cmd(self, transfer: &[u8]) -> Shown
+    pub fn read_step(self, transfer: &[u8]) -> Shown
         ensures { λ r. ⌜ r ≡ shownAs (dataRead (self .regs) (now (transfer .entry))) (self .held) ⌝ }
     {
         let regs = self.regs;
@@ -147,7 +145,7 @@ impl Floppy {
     }
 
     // A read of the main status.
-    pub fn read_status(self) -> Shown
+    pub fn status_step(self) -> Shown
         ensures { λ r. ⌜ r ≡ shownAs (statusRead (self .regs)) (self .held) ⌝ }
     {
         let regs = self.regs;
@@ -157,5 +155,40 @@ impl Floppy {
         let held = self.held;
         let floppy = Floppy { regs: after, held };
         Shown { byte, floppy }
+    }
+
+    // The same three over a controller that is lent to be changed, as the Rust has them. A port read copies the registers and no held byte.
+
+    pub fn write_cmd(
+        &mut self,
+        b: u8,
+        table: &mut [u8],
+        bytes: &mut [u8],
+        transfer: &mut [u8],
+    ) -> Done
+        ensures { λ r. ⌜ wrote (after r (now (self .exit))) (now (table .exit)) (now (bytes .exit)) (now (transfer .exit)) ≡ wroteAs (dataWrite (now (self .entry) .regs) b (now (self .entry) .held) (now (table .entry)) (now (bytes .entry)) (now (transfer .entry))) ⌝ }
+    {
+        let c = *self;
+        let a = c.write_step(b, table, bytes, transfer);
+        *self = a.floppy;
+        a.done
+    }
+
+    pub fn read_cmd(&mut self, transfer: &[u8]) -> Byte
+        ensures { λ r. ⌜ shown r (now (self .exit)) ≡ shownAs (dataRead (now (self .entry) .regs) (now (transfer .entry))) (now (self .entry) .held) ⌝ }
+    {
+        let g = self.regs;
+        let a = g.read_cmd(transfer);
+        self.regs = a.regs;
+        a.answer
+    }
+
+    pub fn read_status(&mut self) -> Byte
+        ensures { λ r. ⌜ shown r (now (self .exit)) ≡ shownAs (statusRead (now (self .entry) .regs)) (now (self .entry) .held) ⌝ }
+    {
+        let g = self.regs;
+        let a = g.read_status();
+        self.regs = a.regs;
+        a.answer
     }
 }

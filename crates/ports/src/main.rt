@@ -167,7 +167,7 @@ fn statuses(floppy: Floppy, times: usize, out: &mut [u8]) -> Answers {
     let mut f = floppy;
     let mut k: usize = 0;
     while k < times {
-        let a = f.read_status();
+        let a = f.status_step();
         let byte = a.byte;
         f = a.floppy;
         match byte {
@@ -194,7 +194,7 @@ fn reads(floppy: Floppy, times: usize, transfer: &[u8], out: &mut [u8]) -> Answe
     let mut f = floppy;
     let mut k: usize = 0;
     while k < times {
-        let a = f.read_cmd(transfer);
+        let a = f.read_step(transfer);
         let byte = a.byte;
         f = a.floppy;
         match byte {
@@ -249,7 +249,7 @@ fn send_round(
     let mut f = floppy;
     let mut k: usize = 0;
     while k < text.len() {
-        let a = f.write_cmd(text[k], table, bytes, transfer);
+        let a = f.write_step(text[k], table, bytes, transfer);
         let done = a.done;
         f = a.floppy;
         match done {

@@ -23,11 +23,12 @@ use Rattle.registers.specs.Settle.{sought, regsTaken, heldTaken, regsAll, regsS
 use Rattle.registers.specs.Calls.{statusOf, regsPolled, afterStatusOf, toldIf, statusRead, sourceOf, byteFrom, regsRead, dataRead}
 use Rattle.registers.proofs.Numbers.{possible, possible-in, until-in}
 use Rattle.registers.proofs.Seen.{status-seen, read-seen}
-use Rattle.floppy.specs.Machine.{sent, done, writePort}
-use Rattle.floppy.specs.Lent.{tableWith, dataWith, transferWith, Left, left, leftOf}
-use Rattle.floppy.specs.Calls.{sentTo, dataWrite, Wrote, wrote, wroteAs}
-use Rattle.floppy.proofs.Seen.{Sees, write-seen, write-refused}
-use Rattle.floppy.proofs.Sends.{sent-right}
+use Rattle.commands.specs.Machine.{sent, done, writePort}
+use Rattle.commands.specs.Lent.{tableWith, dataWith, transferWith, Left, left, leftOf}
+use Rattle.commands.specs.Calls.{sentTo, dataWrite}
+use Rattle.floppy.specs.Calls.{Wrote, wrote, wroteAs}
+use Rattle.commands.proofs.Seen.{Sees, write-seen, write-refused}
+use Rattle.commands.proofs.Sends.{sent-right}
 use Rattle.saves.specs.Events.{Event, poll, read, send, Answer, showed, gave, took, Played, noting, play}
 use Rattle.saves.specs.Hosts.{Host, Called, telling, byteThen, doneThen, withFloppy, wroteThen, calls, Sound, seen, lent}
 use Rattle.saves.proofs.Kept.{Whole, Rooms, whole-sent, sent-room, transfer-kept, room-kept}

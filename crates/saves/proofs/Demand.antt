@@ -20,7 +20,7 @@ use Rattle.disk.specs.Change.{withContent, saved}
 use Rattle.registers.specs.declared.kind.Kind.the-variants.{SeekTo, WriteData}
 use Rattle.registers.specs.Boxes.{Setting, Slot, Holds, Inside, World, Finish, changed, allChanged, putIn}
 use Rattle.registers.specs.Table.{kindOf, kindBy, rows, bytesFor}
-use Rattle.floppy.specs.Commands.{driveOf, headOf, named, puts, seekIf, startAt, writeData, writeReply, saveAt, written, obeyed}
+use Rattle.commands.specs.Commands.{driveOf, headOf, named, puts, seekIf, startAt, writeData, writeReply, saveAt, written, obeyed}
 use Rattle.saves.specs.Events.{Event, Played, play, sentIn}
 use Rattle.saves.specs.Words.{Ready, Address, Save, bytesOf, addressOf, IsSave, savedAt, savedBy}
 use Rattle.saves.proofs.Finds.{mapFound}

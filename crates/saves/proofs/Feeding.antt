@@ -16,8 +16,8 @@ use Rattle.registers.specs.declared.kind.Kind.{Kind}
 use Rattle.registers.specs.Boxes.{Setting, Slot, Holds, Writing, Inside, World, Taking, Add, Hold, Effect, Sent, withCommand, withWrite, taken, changed, allChanged, putIn}
 use Rattle.registers.specs.Table.{kindOf, bytesFor}
 use Rattle.registers.specs.Ports.{status, afterStatus, portByte, afterRead}
-use Rattle.floppy.specs.Commands.{byte, does, obeyed, written}
-use Rattle.floppy.specs.Machine.{sends, clearing, commandIf, commandByte, dataIf, dataByte, byteFor, sent, done, writePort}
+use Rattle.commands.specs.Commands.{byte, does, obeyed, written}
+use Rattle.commands.specs.Machine.{sends, clearing, commandIf, commandByte, dataIf, dataByte, byteFor, sent, done, writePort}
 use Rattle.saves.specs.Events.{Event, poll, read, send, Answer, showed, gave, took, Played, noting, play, sentIn}
 
 -- ---- a byte, inside

@@ -10,7 +10,7 @@ use Rattle.image.specs.Model.{Disk}
 use Rattle.store.specs.Store.{diskOf}
 use Rattle.registers.specs.Boxes.{Setting, Slot, Empty, Holds, World}
 use Rattle.registers.specs.View.{slotIf, insideOf}
-use Rattle.floppy.specs.Machine.{writePort}
+use Rattle.commands.specs.Machine.{writePort}
 use Rattle.saves.specs.Events.{Event, poll, read, send, Answer, took, Played, noting, play, sentIn}
 use Rattle.saves.specs.Words.{Ready, Save, bytesOf, addressOf, IsSave, savedBy, ReadsBack, readBytes, replyTo, LosesNone, dataReads, givenIn}
 use Rattle.saves.specs.Hosts.{Host, Called, calls, Sound, seen, lent}

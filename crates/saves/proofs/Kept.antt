@@ -31,9 +31,9 @@ use Rattle.registers.specs.Boxes.{Setting, Slot, Empty, Holds, Inside, Writing,
 use Rattle.registers.specs.Table.{kindOf, bytesFor}
 use Rattle.registers.specs.View.{settingOf}
 use Rattle.registers.specs.Settle.{replied, regsTaken, heldTaken, regsChanged, regsAll, ifUnread, interruptedBy, regsShifted}
-use Rattle.floppy.specs.Commands.{byte, idOf, u, driveOf, headOf, inDrive, named, does, puts, seekIf, readReply, sizesOf, servedAs, readData, startAt, writeData, writeReply, saveAt, written, idAt, readId, formatTrack, obeyed}
-use Rattle.floppy.specs.Machine.{sends, clearing, commandIf, commandByte, dataIf, dataByte, byteFor, sent}
-use Rattle.floppy.specs.Lent.{dataWith, transferWith}
+use Rattle.commands.specs.Commands.{byte, idOf, u, driveOf, headOf, inDrive, named, does, puts, seekIf, readReply, sizesOf, servedAs, readData, startAt, writeData, writeReply, saveAt, written, idAt, readId, formatTrack, obeyed}
+use Rattle.commands.specs.Machine.{sends, clearing, commandIf, commandByte, dataIf, dataByte, byteFor, sent}
+use Rattle.commands.specs.Lent.{dataWith, transferWith}
 
 -- ---- what an effect asks of the rooms
 

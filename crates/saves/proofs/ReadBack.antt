@@ -20,8 +20,8 @@ use Rattle.registers.specs.declared.kind.Kind.the-variants.{ReadData}
 use Rattle.registers.specs.Boxes.{Setting, Holds, Inside, Front, World, Add, Clear, Serve, Effect, Sent, shifted}
 use Rattle.registers.specs.Table.{kindOf, bytesFor}
 use Rattle.registers.specs.Ports.{some?, polled, Poll, Stays, Counts, Drops, afterStatus, sourceBy, given, readFrom, portByte, afterRead}
-use Rattle.floppy.specs.Commands.{byte, u, driveOf, headOf, named, does, withBit, endOf, markOf, sizesOf, readReply, servedAs, readData, obeyed}
-use Rattle.floppy.specs.Machine.{sends, clearing, commandIf, commandByte, byteFor, sent, done, writePort}
+use Rattle.commands.specs.Commands.{byte, u, driveOf, headOf, named, does, withBit, endOf, markOf, sizesOf, readReply, servedAs, readData, obeyed}
+use Rattle.commands.specs.Machine.{sends, clearing, commandIf, commandByte, byteFor, sent, done, writePort}
 use Rattle.saves.specs.Events.{Event, poll, read, send, Answer, showed, gave, took, Played, noting, play, sentIn}
 use Rattle.saves.specs.Words.{Ready, Save, bytesOf, addressOf, IsSave, savedAt, savedBy, ReadsBack, readBytes, replyTo, LosesNone, dataReads, givenIn}
 use Rattle.saves.proofs.Finds.{mapFound}

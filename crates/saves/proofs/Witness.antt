@@ -21,8 +21,8 @@ use Rattle.registers.specs.Ports.{afterRead, changeDisk}
 use Rattle.registers.specs.View.{insideOf, impossible, impossibleIn}
 use Rattle.registers.specs.Calls.{diskSet}
 use Rattle.floppy.specs.Calls.{newFloppy}
-use Rattle.floppy.specs.Commands.{withBit, seekIf, servedAs, readData, startAt, writeData, writeReply, saveAt, written, obeyed}
-use Rattle.floppy.specs.Machine.{commandIf, commandByte, dataIf, dataByte, byteFor, sent, done, writePort}
+use Rattle.commands.specs.Commands.{withBit, seekIf, servedAs, readData, startAt, writeData, writeReply, saveAt, written, obeyed}
+use Rattle.commands.specs.Machine.{commandIf, commandByte, dataIf, dataByte, byteFor, sent, done, writePort}
 use Rattle.saves.specs.Events.{Event, read, send, Played, play, sentIn}
 use Rattle.saves.specs.Words.{Ready, Address, Save, bytesOf, addressOf, IsSave, savedBy, ReadsBack, readBytes, replyTo, LosesNone, dataReads, givenIn}
 use Rattle.saves.specs.Hosts.{Host, Called, calls, Sound, seen}

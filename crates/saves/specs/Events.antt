@@ -4,7 +4,7 @@ use mathlib.Core.List.{List, [], _∷_}
 use Rattle.image.specs.Refusals.{Result, refused, good, after}
 use Rattle.registers.specs.Boxes.{Setting, World}
 use Rattle.registers.specs.Ports.{status, afterStatus, portByte, afterRead}
-use Rattle.floppy.specs.Machine.{writePort}
+use Rattle.commands.specs.Machine.{writePort}
 
 -- a status read, a data-port read, a byte sent to the data port
 pub data Event : Type 0 where

@@ -14,7 +14,8 @@ use Rattle.registers.specs.View.{settingOf, worldOf, impossibleIn}
 use Rattle.registers.specs.Calls.{statusRead, dataRead}
 use Rattle.floppy.specs.declared.Floppy.{Floppy}
 use Rattle.floppy.specs.declared.Shown.{Shown}
-use Rattle.floppy.specs.Calls.{dataWrite, shownAs, Wrote, wrote, wroteAs}
+use Rattle.commands.specs.Calls.{dataWrite}
+use Rattle.floppy.specs.Calls.{shownAs, Wrote, wrote, wroteAs}
 use Rattle.saves.specs.Events.{Event, poll, read, send, Answer, showed, gave, took}
 
 -- what a host has: the controller and the three lent buffers

@@ -14,7 +14,7 @@ use Rattle.registers.specs.declared.kind.Kind.the-variants.{ReadData, WriteData
 use Rattle.registers.specs.Boxes.{Holds, World}
 use Rattle.registers.specs.Table.{kindOf}
 use Rattle.registers.specs.Ports.{afterStatus, afterRead}
-use Rattle.floppy.specs.Commands.{u, driveOf, headOf, withBit}
+use Rattle.commands.specs.Commands.{u, driveOf, headOf, withBit}
 use Rattle.saves.specs.Events.{Event, poll, read, send, Answer, showed, gave, took}
 
 -- a disk is in drive 0, nothing is half sent, no write is in progress

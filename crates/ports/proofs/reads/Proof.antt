@@ -14,8 +14,8 @@ abbrev μ-loop : tie.MeasureT-loop
 loop-holds : tie.Need-loop-holds Inv-loop μ-loop
 loop-holds c = search needs
 
-read-cmd-requires : tie.Need-read-cmd-requires Inv-loop μ-loop
-read-cmd-requires c κs = search needs
+read-step-requires : tie.Need-read-step-requires Inv-loop μ-loop
+read-step-requires c κs = search needs
 
 enum-known-byte : tie.Need-enum-known-byte Inv-loop μ-loop
 enum-known-byte c = search needs
@@ -54,7 +54,7 @@ reads-spec =
     Inv-loop
     μ-loop
     loop-holds
-    read-cmd-requires
+    read-step-requires
     enum-known-byte
     same-length
     returns

@@ -14,11 +14,11 @@ abbrev μ-loop : tie.MeasureT-loop
 loop-holds : tie.Need-loop-holds Inv-loop μ-loop
 loop-holds c = search needs
 
-shared-slice-read-write-cmd : tie.Need-shared-slice-read-write-cmd Inv-loop μ-loop
-shared-slice-read-write-cmd c = search needs
+shared-slice-read-write-step : tie.Need-shared-slice-read-write-step Inv-loop μ-loop
+shared-slice-read-write-step c = search needs
 
-write-cmd-requires : tie.Need-write-cmd-requires Inv-loop μ-loop
-write-cmd-requires c κs = search needs
+write-step-requires : tie.Need-write-step-requires Inv-loop μ-loop
+write-step-requires c κs = search needs
 
 enum-told : tie.Need-enum-told Inv-loop μ-loop
 enum-told c = search needs
@@ -66,8 +66,8 @@ send-round-spec =
     Inv-loop
     μ-loop
     loop-holds
-    shared-slice-read-write-cmd
-    write-cmd-requires
+    shared-slice-read-write-step
+    write-step-requires
     enum-told
     same-length
     same-length-2

@@ -14,8 +14,8 @@ abbrev μ-loop : tie.MeasureT-loop
 loop-holds : tie.Need-loop-holds Inv-loop μ-loop
 loop-holds c = search needs
 
-read-status-requires : tie.Need-read-status-requires Inv-loop μ-loop
-read-status-requires c κs = search needs
+status-step-requires : tie.Need-status-step-requires Inv-loop μ-loop
+status-step-requires c κs = search needs
 
 enum-known-byte : tie.Need-enum-known-byte Inv-loop μ-loop
 enum-known-byte c = search needs
@@ -54,7 +54,7 @@ statuses-spec =
     Inv-loop
     μ-loop
     loop-holds
-    read-status-requires
+    status-step-requires
     enum-known-byte
     same-length
     returns

@@ -1,0 +1,5 @@
+-- Laws that more than one proof cites, and the theorems about the machine.
+pub mod Effects
+pub mod Sends
+pub mod Seen
+pub mod Sessions

@@ -1,0 +1,56 @@
+use mathlib.Core.Path.{_≡_, refl, sym, ap, _∙_}
+use Rattle.registers.specs.Settle.{regsShifted, interruptedBy}
+use Rattle.registers.specs.declared.regs.Seek.{Seek}
+use Rattle.registers.specs.declared.regs.Written.{Written}
+use Rattle.store.specs.declared.answer.Done.the-variants.{Good}
+use borrow.Author.Needs.{needs}
+use Rattle.commands.proofs.command.sense_interrupt.Statement.{statement}
+use Rattle.commands.proofs.command.sense_interrupt.Tie as tie
+
+enum-told : tie.Need-enum-told
+enum-told c = search needs
+
+reply2-requires : tie.Need-reply2-requires
+reply2-requires c κs = search needs
+
+enum-told-2 : tie.Need-enum-told-2
+enum-told-2 c = search needs
+
+moved-requires : tie.Need-moved-requires
+moved-requires c κs = search needs
+
+reply2-requires-2 : tie.Need-reply2-requires-2
+reply2-requires-2 c κs = search needs
+
+enum-told-3 : tie.Need-enum-told-3
+enum-told-3 c = search needs
+
+reply2-requires-3 : tie.Need-reply2-requires-3
+reply2-requires-3 c κs = search needs
+
+returns : tie.Need-returns
+unfolding regsShifted interruptedBy
+returns c = let r = c .before .before .before .before .args .regs in c .reply2 .ensures ∙ sym (ap {B = Written} (λ (s : Seek). record { done = Good; regs = interruptedBy (r .drive .cylinder) r s }) (c .before .enum-told .given .1))
+
+returns-2 : tie.Need-returns-2
+unfolding regsShifted interruptedBy
+returns-2 c = let r = c .before .before .before .before .before .args .regs in c .reply22 .ensures ∙ simp (c .before .moved .ensures) (sym (ap {B = Written} (λ (s : Seek). record { done = Good; regs = interruptedBy (r .drive .cylinder) r s }) (c .before .before .enum-told2 .given .1)))
+
+returns-3 : tie.Need-returns-3
+unfolding regsShifted interruptedBy
+returns-3 c = let r = c .before .before .before .before .args .regs in c .reply23 .ensures ∙ sym (ap {B = Written} (λ (s : Seek). record { done = Good; regs = interruptedBy (r .drive .cylinder) r s }) (c .before .enum-told3 .given .1))
+
+pub sense-interrupt-spec : {M : Type 1} → statement M
+sense-interrupt-spec =
+    tie.close
+    (tie.spec
+    enum-told
+    reply2-requires
+    enum-told-2
+    moved-requires
+    reply2-requires-2
+    enum-told-3
+    reply2-requires-3
+    returns
+    returns-2
+    returns-3)

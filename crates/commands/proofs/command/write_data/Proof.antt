@@ -1,0 +1,76 @@
+use mathlib.Core.Path.{_≡_, refl, sym, ap, _∙_}
+use borrow.Author.Tests.{eq-eqb, ne-eqb, lt-ltb, le-ltb, le-leb, lt-leb, not-true, not-false}
+use Rattle.store.specs.declared.answer.Done.the-variants.{Good}
+use Rattle.registers.specs.declared.regs.Written.{Written}
+use Rattle.registers.specs.declared.regs.Regs.{Regs}
+use Rattle.commands.proofs.Effects.{start-none, start-ran}
+use Rattle.commands.specs.Commands.{writeData}
+use Rattle.registers.specs.Settle.{regsOf, regsAll, regsShifted}
+use borrow.Author.Needs.{needs}
+use Rattle.commands.proofs.command.write_data.Statement.{statement}
+use Rattle.commands.proofs.command.write_data.Tie as tie
+
+ready-requires : tie.Need-ready-requires
+ready-requires c κs = search needs
+
+not-ready-requires : tie.Need-not-ready-requires
+not-ready-requires c κs = search needs
+
+returns : tie.Need-returns
+unfolding writeData regsOf regsAll regsShifted
+returns c = c .not-ready .ensures ∙ start-none (c .before .before .before .before .before .args .regs) (c .before .before .before .before .before .args .c1) (c .before .before .before .before .before .args .id) (c .before .before .before .before .before .args .table .now) (c .before .before .before .before .before .args .bytes .now) (sym (not-true _ (c .before .if1 .taken)) ∙ c .before .before .ready .ensures)
+
+has-sector-requires : tie.Need-has-sector-requires
+has-sector-requires c κs = search needs
+
+enum-known-why : tie.Need-enum-known-why
+enum-known-why c = search needs
+
+refused-requires : tie.Need-refused-requires
+refused-requires c κs = search needs
+
+enum-told : tie.Need-enum-told
+enum-told c = search needs
+
+missing-requires : tie.Need-missing-requires
+missing-requires c κs = search needs
+
+enum-told-2 : tie.Need-enum-told-2
+enum-told-2 c = search needs
+
+started-requires : tie.Need-started-requires
+started-requires c κs = search needs
+
+done-requires : tie.Need-done-requires
+done-requires c κs = search needs
+
+returns-2 : tie.Need-returns-2
+unfolding regsOf
+returns-2 c = c .refused .ensures ∙ start-ran (c .before .before .before .before .before .before .before .before .before .before .args .regs) (c .before .before .before .before .before .before .before .before .before .before .args .c1) (c .before .before .before .before .before .before .before .before .before .before .args .id) (c .before .before .before .before .before .before .before .before .before .before .args .table .now) (c .before .before .before .before .before .before .before .before .before .before .args .bytes .now) _ (sym (not-false _ (c .before .before .before .before .before .before .if1 .left)) ∙ c .before .before .before .before .before .before .before .ready .ensures) (sym (c .before .before .why .given .1) ∙ c .before .before .before .before .has-sector .ensures)
+
+returns-3 : tie.Need-returns-3
+unfolding regsOf regsAll regsShifted
+returns-3 c = c .missing .ensures ∙ start-ran (c .before .before .before .before .before .before .before .before .before .args .regs) (c .before .before .before .before .before .before .before .before .before .args .c1) (c .before .before .before .before .before .before .before .before .before .args .id) (c .before .before .before .before .before .before .before .before .before .args .table .now) (c .before .before .before .before .before .before .before .before .before .args .bytes .now) _ (sym (not-false _ (c .before .before .before .before .before .if1 .left)) ∙ c .before .before .before .before .before .before .ready .ensures) (sym (c .before .enum-told .given .1) ∙ c .before .before .before .has-sector .ensures)
+
+returns-4 : tie.Need-returns-4
+unfolding regsOf regsAll regsShifted
+returns-4 c = c .done .ensures ∙ ap {B = Written} (λ (x : Regs). record { done = Good; regs = x }) (c .before .started .ensures) ∙ start-ran (c .before .before .before .before .before .before .before .before .before .before .args .regs) (c .before .before .before .before .before .before .before .before .before .before .args .c1) (c .before .before .before .before .before .before .before .before .before .before .args .id) (c .before .before .before .before .before .before .before .before .before .before .args .table .now) (c .before .before .before .before .before .before .before .before .before .before .args .bytes .now) _ (sym (not-false _ (c .before .before .before .before .before .before .if1 .left)) ∙ c .before .before .before .before .before .before .before .ready .ensures) (sym (c .before .before .enum-told2 .given .1) ∙ c .before .before .before .before .has-sector .ensures)
+
+pub write-data-spec : {M : Type 1} → statement M
+write-data-spec =
+    tie.close
+    (tie.spec
+    ready-requires
+    not-ready-requires
+    returns
+    has-sector-requires
+    enum-known-why
+    refused-requires
+    enum-told
+    missing-requires
+    enum-told-2
+    started-requires
+    done-requires
+    returns-2
+    returns-3
+    returns-4)
