@@ -189,14 +189,14 @@ module _ (t b : List ℕ) where
 
 module _ (t b : List ℕ) (side cylinder : ℕ) (id : SectorId) where
   pub located-bad : wellLaid t (roomOf b) ≡ false → Located t b side cylinder id (place.Refused BadStore)
-  located-bad e = record { says = rw (disk-bad t b e); within = tt }
+  located-bad e = record { says = rw (disk-bad t b e); within = tt; stands = rw e }
 
   module _ (e : wellLaid t (roomOf b) ≡ true) where
     spot-says : (s : Spot) → s ≡ storeSpot t side cylinder id → good (rowAtSpot t b s) ≡ searched (diskOf t b) side cylinder id
     spot-says s f = rw (disk-good t b e) (ap (λ (x : Spot). good (rowAtSpot t b x)) f ∙ ap good (sym (sector-found t b side cylinder id)))
 
     pub located-none : Nothing ≡ storeSpot t side cylinder id → Located t b side cylinder id place.Nothing
-    located-none f = record { says = spot-says Nothing f; within = tt }
+    located-none f = record { says = spot-says Nothing f; within = tt; stands = rw e f }
 
     module _ (i a p : ℕ) (f : At i a p ≡ storeSpot t side cylinder id) where
       -- a row that was found lies inside the table, and its bytes inside the data room
@@ -212,6 +212,7 @@ module _ (t b : List ℕ) (side cylinder : ℕ) (id : SectorId) where
       located-part n q = record {
         says = spot-says (At i a p) f;
         within = (part-inside .0, ap (λ (m : ℕ). p + m) q, rw q (part-inside .1 .0));
+        stands = rw e f;
       }
 
 -- ---- what it says to a caller that took its answer apart

@@ -13,7 +13,7 @@ use Rattle.image.specs.declared.id.SectorId.{SectorId}
 use Rattle.image.specs.declared.refusal.Refusal.{Refusal}
 use Rattle.store.specs.Find.{Found, nothing, found}
 use Rattle.store.specs.Search.{sectorAt}
-use Rattle.store.specs.Store.{tableLength, countAt, nextAt, trackSum, countsAt, bytesAt, wellLaid, diskOf}
+use Rattle.store.specs.Store.{tableLength, roomOf, countAt, nextAt, trackSum, countsAt, bytesAt, wellLaid, diskOf}
 use Rattle.store.specs.declared.find.Spot.{Spot}
 use Rattle.store.specs.declared.find.Spot.the-variants.{Nothing, At}
 use Rattle.store.specs.declared.find.Turned.{Turned}
@@ -103,7 +103,14 @@ Within t b (place.Refused why) = Unit {0}
 Within t b place.Nothing = Unit {0}
 Within t b (place.Part index row from to) = (row + 8 ≤ length t) × (to ≡ from + rowAt t row .stored) × (to ≤ length b)
 
--- a place is where the search finds the sector
+-- a place as the spot of its row
+abbrev pub spotOf : Place → Spot
+spotOf (place.Refused why) = Nothing
+spotOf place.Nothing = Nothing
+spotOf (place.Part index row from to) = At index row from
+
+-- a place is where the search finds the sector, at the row that the table has for it
 pub record Located (t b : List ℕ) (side cylinder : ℕ) (id : SectorId) (r : Place) : Type 0 where
   pub says : placed t b r ≡ searched (diskOf t b) side cylinder id
   pub within : Within t b r
+  pub stands : spotOf r ≡ cond (wellLaid t (roomOf b)) (storeSpot t side cylinder id) Nothing

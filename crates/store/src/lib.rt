@@ -9,10 +9,8 @@ pub use answer::Done;
 pub use answer::Geometry;
 pub use answer::Has;
 pub use answer::IdFound;
-use find::Place;
 pub use find::geometry;
 pub use find::id_by_idx;
-use find::locate;
 use image::SectorId;
 pub use lay::new;
 pub use lay::new_formatted;
@@ -21,6 +19,7 @@ ghost use Rattle.store.specs.Store.{diskOf};
 ghost use Rattle.store.specs.Calls.{lookupOf, hasOf};
 
 // The names of this block are for the crates above only, and may have a `requires`.
+pub use find::Place;
 pub use check::Totals;
 pub use check::room_of;
 pub use check::rows_len;
@@ -31,6 +30,7 @@ pub use find::find_sector;
 pub use find::get_sector;
 pub use find::get_track;
 pub use find::greater;
+pub use find::locate;
 pub use find::row_here;
 pub use lay::capacity;
 pub use lay::lay_formatted;
