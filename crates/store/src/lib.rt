@@ -19,12 +19,12 @@ ghost use Rattle.store.specs.Store.{diskOf};
 ghost use Rattle.store.specs.Calls.{lookupOf, hasOf};
 
 // The names of this block are for the crates above only, and may have a `requires`.
-pub use find::Place;
 pub use check::Totals;
 pub use check::room_of;
 pub use check::rows_len;
 pub use check::survey;
 pub use check::transfer_room;
+pub use find::Place;
 pub use find::Spot;
 pub use find::find_sector;
 pub use find::get_sector;

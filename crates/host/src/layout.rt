@@ -1,0 +1,198 @@
+// The controller as bytes that the host lends: 42 bytes of numbers, then the 1,024 held bytes. docs/HOST.md has the layout.
+use image::SectorId;
+use registers::Drive;
+use registers::Pending;
+use registers::Regs;
+use registers::Seek;
+ghost use mathlib.Core.Path.{_≡_};
+ghost use Prim.Native.Nat.{_+_, _*_, _%_, _≤_};
+ghost use mathlib.Core.List.{[]};
+ghost use lib.ListN.{length};
+ghost use Rattle.host.specs.Layout.{controllerLength, flagByte, seekByte, flagAt, seekAt, numbersFor, regsAt, heldAt, formed};
+
+pub const LENGTH: usize = 1066;
+
+// Where the held bytes begin.
+pub const HELD: usize = 42;
+
+fn flag_at(b: u8) -> bool
+    ensures { λ r. ⌜ r ≡ flagAt b ⌝ }
+{
+    b != 0
+}
+
+fn flag_byte(f: bool) -> u8
+    ensures { λ r. ⌜ r ≡ flagByte f ⌝ }
+{
+    if f { 1 } else { 0 }
+}
+
+fn seek_at(b: u8) -> Seek
+    ensures { λ r. ⌜ r ≡ seekAt b ⌝ }
+{
+    if b == 1 {
+        return Seek::Running;
+    }
+    if b == 2 {
+        return Seek::Done;
+    }
+    Seek::Idle
+}
+
+fn seek_byte(s: Seek) -> u8
+    ensures { λ r. ⌜ r ≡ seekByte s ⌝ }
+{
+    match s {
+        Seek::Idle => 0,
+        Seek::Running => 1,
+        Seek::Done => 2,
+    }
+}
+
+// Two bytes as a number, and four, the lowest first.
+fn word(a: u8, b: u8) -> u16
+    ensures { λ r. ⌜ r ≡ a + 256 * b ⌝ }
+{
+    a as u16 + 256 * (b as u16)
+}
+
+fn long(a: u8, b: u8, c: u8, d: u8) -> u32
+    ensures { λ r. ⌜ r ≡ a + 256 * (b + 256 * (c + 256 * d)) ⌝ }
+{
+    a as u32 + 256 * (b as u32 + 256 * (c as u32 + 256 * (d as u32)))
+}
+
+// The lowest byte of a number.
+fn low(x: u32) -> u8
+    ensures { λ r. ⌜ r ≡ x % 256 ⌝ }
+{
+    (x % 256) as u8
+}
+
+// Whether a controller has these bytes, as far as one by one they can tell.
+pub fn formed(c: &[u8]) -> bool
+    ensures { λ r. ⌜ r ≡ formed (now (c .entry)) ⌝ }
+{
+    if c.len() != LENGTH {
+        return false;
+    }
+    if 1 < c[28] {
+        return false;
+    }
+    if 1 < c[31] {
+        return false;
+    }
+    if 2 < c[40] {
+        return false;
+    }
+    c[41] <= 1
+}
+
+// The registers that are in these bytes.
+pub fn decode(c: &[u8]) -> Regs
+    requires { ⌜ length (now c) ≡ controllerLength ⌝ }
+    ensures { λ r. ⌜ r ≡ regsAt (now (c .entry)) ⌝ }
+{
+    let command = [c[0], c[1], c[2], c[3], c[4], c[5], c[6], c[7], c[8]];
+    let reply = [c[10], c[11], c[12], c[13], c[14], c[15], c[16]];
+    let id = SectorId {
+        c: c[33],
+        h: c[34],
+        r: c[35],
+        n: c[36],
+    };
+    let write = Pending {
+        on: flag_at(c[31]),
+        c1: c[32],
+        id,
+        taken: word(c[37], c[38]),
+    };
+    let drive = Drive {
+        cylinder: c[39],
+        seek: seek_at(c[40]),
+        disk: flag_at(c[41]),
+    };
+    Regs {
+        command,
+        count: c[9],
+        reply,
+        place: c[17],
+        fill: c[18],
+        from: long(c[19], c[20], c[21], c[22]),
+        until: long(c[23], c[24], c[25], c[26]),
+        lost: c[27],
+        motor: flag_at(c[28]),
+        index: word(c[29], c[30]),
+        write,
+        drive,
+    }
+}
+
+// The registers as bytes.
+fn numbers(r: Regs) -> [u8; 42]
+    ensures { λ b. ⌜ b ≡ numbersFor r [] ⌝ }
+{
+    let e = r.command;
+    let y = r.reply;
+    let f = r.from;
+    let u = r.until;
+    let i = r.index as u32;
+    let p = r.write;
+    let d = p.id;
+    let t = p.taken as u32;
+    let v = r.drive;
+    let s = v.seek;
+    [
+        e[0],
+        e[1],
+        e[2],
+        e[3],
+        e[4],
+        e[5],
+        e[6],
+        e[7],
+        e[8],
+        r.count,
+        y[0],
+        y[1],
+        y[2],
+        y[3],
+        y[4],
+        y[5],
+        y[6],
+        r.place,
+        r.fill,
+        low(f),
+        low(f / 256),
+        low(f / 256 / 256),
+        low(f / 256 / 256 / 256),
+        low(u),
+        low(u / 256),
+        low(u / 256 / 256),
+        low(u / 256 / 256 / 256),
+        r.lost,
+        flag_byte(r.motor),
+        low(i),
+        low(i / 256),
+        flag_byte(p.on),
+        p.c1,
+        d.c,
+        d.h,
+        d.r,
+        d.n,
+        low(t),
+        low(t / 256),
+        v.cylinder,
+        seek_byte(s),
+        flag_byte(v.disk),
+    ]
+}
+
+// Writes the registers into the bytes; the held bytes stay.
+pub fn encode(r: Regs, c: &mut [u8])
+    requires { ⌜ length (now c) ≡ controllerLength ⌝ }
+    ensures { λ _. ⌜ now (c .exit) ≡ numbersFor r (heldAt (now (c .entry))) ⌝ }
+{
+    let n = numbers(r);
+    buffer::copy_in(c, 0, &n);
+}
