@@ -2,7 +2,7 @@
 use mathlib.Core.Path.{_≡_, refl, sym, ap, _∙_}
 use Prim.Native.Nat.{ℕ, _+_, _*_}
 use native.Mathlib.Omega.{arith}
-use mathlib.Core.Bool.{Bool, true, false, _&&_}
+use mathlib.Core.Bool.{true, false}
 use mathlib.Core.List.{List, [], _∷_, _++_}
 use lib.ListN.{length, drop}
 use borrow.Author.Tests.{eqb-true}
@@ -10,6 +10,7 @@ use Rattle.buffer.specs.Over.{over}
 use Rattle.image.specs.Bytes.{byteAt, numberAt}
 use Rattle.image.specs.Refusals.{Result, refused, good}
 use Rattle.image.specs.declared.refusal.Refusal.the-variants.{BadController}
+use Rattle.store.proofs.Checks.{and-fst}
 use Rattle.store.proofs.Rounds.{over-front}
 use Rattle.registers.specs.declared.regs.Regs.{Regs}
 use Rattle.host.specs.Layout.{controllerLength, numbersFor, regsAt, heldAt, formed, regsIn}
@@ -37,13 +38,9 @@ numbers-long b r e = ap length e
 
 -- ---- bytes that a controller has, and others
 
-and-first : (a b : Bool) → (a && b) ≡ true → a ≡ true
-and-first true b e = refl
-and-first false b e = e
-
 pub formed-long : (l : List ℕ) → formed l ≡ true → length l ≡ controllerLength
 unfolding formed
-formed-long l e = eqb-true _ _ (and-first _ _ e)
+formed-long l e = eqb-true _ _ (and-fst _ _ e)
 
 module _ (l : List ℕ) where
   pub regs-bad : formed l ≡ false → regsIn l ≡ refused BadController

@@ -1,4 +1,2 @@
--- Laws that more than one proof cites, and the theorems: the bytes and the controller are each other's inverse, and the exported calls are the calls by value.
+-- Laws that more than one proof cites.
 pub mod Images
-pub mod Inverse
-pub mod Same
