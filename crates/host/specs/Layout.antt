@@ -8,6 +8,8 @@ use Rattle.image.specs.Bytes.{byteAt, numberAt}
 use Rattle.image.specs.Refusals.{Result, good, need}
 use Rattle.image.specs.declared.refusal.Refusal.the-variants.{BadController}
 use Rattle.registers.specs.declared.regs.Regs.{Regs}
+use Rattle.registers.specs.declared.regs.Pending.{Pending}
+use Rattle.registers.specs.declared.regs.Drive.{Drive}
 use Rattle.registers.specs.declared.regs.Seek.{Seek}
 use Rattle.registers.specs.declared.regs.Seek.the-variants.{Idle, Running, Done}
 use Rattle.floppy.specs.declared.Floppy.{Floppy}
@@ -78,6 +80,17 @@ seekIf false false = Idle
 abbrev pub seekAt : ℕ → Seek
 seekAt b = seekIf (eqb b 1) (eqb b 2)
 
+abbrev pub writeAt : List ℕ → Pending
+writeAt l = record {
+  on = flagAt (byteAt l 31);
+  c1 = byteAt l 32;
+  id = record { c = byteAt l 33; h = byteAt l 34; r = byteAt l 35; n = byteAt l 36 };
+  taken = numberAt 2 l 37;
+}
+
+abbrev pub driveAt : List ℕ → Drive
+driveAt l = record { cylinder = byteAt l 39; seek = seekAt (byteAt l 40); disk = flagAt (byteAt l 41) }
+
 unfoldable pub regsAt : List ℕ → Regs
 regsAt l = record {
   command = bytesFor 9 l 0 [];
@@ -90,13 +103,8 @@ regsAt l = record {
   lost = byteAt l 27;
   motor = flagAt (byteAt l 28);
   index = numberAt 2 l 29;
-  write = record {
-    on = flagAt (byteAt l 31);
-    c1 = byteAt l 32;
-    id = record { c = byteAt l 33; h = byteAt l 34; r = byteAt l 35; n = byteAt l 36 };
-    taken = numberAt 2 l 37;
-  };
-  drive = record { cylinder = byteAt l 39; seek = seekAt (byteAt l 40); disk = flagAt (byteAt l 41) };
+  write = writeAt l;
+  drive = driveAt l;
 }
 
 -- the held bytes

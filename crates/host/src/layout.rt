@@ -8,7 +8,8 @@ ghost use mathlib.Core.Path.{_≡_};
 ghost use Prim.Native.Nat.{_+_, _*_, _%_, _≤_};
 ghost use mathlib.Core.List.{[]};
 ghost use lib.ListN.{length};
-ghost use Rattle.host.specs.Layout.{controllerLength, flagByte, seekByte, flagAt, seekAt, numbersFor, regsAt, heldAt, formed};
+ghost use Rattle.image.specs.Bytes.{numberAt};
+ghost use Rattle.host.specs.Layout.{controllerLength, flagByte, seekByte, bytesFor, numbersFor, flagAt, seekAt, writeAt, driveAt, regsAt, heldAt, formed};
 
 pub const LENGTH: usize = 1066;
 
@@ -49,7 +50,21 @@ fn seek_byte(s: Seek) -> u8
     }
 }
 
-// Two bytes as a number, and four, the lowest first.
+// The number in two bytes from a place, and in four, the lowest first.
+fn word_at(c: &[u8], at: usize) -> u16
+    requires { ⌜ at + 2 ≤ length (now c) ⌝ }
+    ensures { λ r. ⌜ r ≡ numberAt 2 (now (c .entry)) at ⌝ }
+{
+    word(c[at], c[at + 1])
+}
+
+fn long_at(c: &[u8], at: usize) -> u32
+    requires { ⌜ at + 4 ≤ length (now c) ⌝ }
+    ensures { λ r. ⌜ r ≡ numberAt 4 (now (c .entry)) at ⌝ }
+{
+    long(c[at], c[at + 1], c[at + 2], c[at + 3])
+}
+
 fn word(a: u8, b: u8) -> u16
     ensures { λ r. ⌜ r ≡ a + 256 * b ⌝ }
 {
@@ -88,41 +103,70 @@ pub fn formed(c: &[u8]) -> bool
     c[41] <= 1
 }
 
-// The registers that are in these bytes.
-pub fn decode(c: &[u8]) -> Regs
+// The parts of the registers that are in these bytes.
+fn command_at(c: &[u8]) -> [u8; 9]
     requires { ⌜ length (now c) ≡ controllerLength ⌝ }
-    ensures { λ r. ⌜ r ≡ regsAt (now (c .entry)) ⌝ }
+    ensures { λ r. ⌜ r ≡ bytesFor 9 (now (c .entry)) 0 [] ⌝ }
 {
-    let command = [c[0], c[1], c[2], c[3], c[4], c[5], c[6], c[7], c[8]];
-    let reply = [c[10], c[11], c[12], c[13], c[14], c[15], c[16]];
+    [c[0], c[1], c[2], c[3], c[4], c[5], c[6], c[7], c[8]]
+}
+
+fn reply_at(c: &[u8]) -> [u8; 7]
+    requires { ⌜ length (now c) ≡ controllerLength ⌝ }
+    ensures { λ r. ⌜ r ≡ bytesFor 7 (now (c .entry)) 10 [] ⌝ }
+{
+    [c[10], c[11], c[12], c[13], c[14], c[15], c[16]]
+}
+
+fn write_at(c: &[u8]) -> Pending
+    requires { ⌜ length (now c) ≡ controllerLength ⌝ }
+    ensures { λ r. ⌜ r ≡ writeAt (now (c .entry)) ⌝ }
+{
     let id = SectorId {
         c: c[33],
         h: c[34],
         r: c[35],
         n: c[36],
     };
-    let write = Pending {
+    Pending {
         on: flag_at(c[31]),
         c1: c[32],
         id,
-        taken: word(c[37], c[38]),
-    };
-    let drive = Drive {
+        taken: word_at(c, 37),
+    }
+}
+
+fn drive_at(c: &[u8]) -> Drive
+    requires { ⌜ length (now c) ≡ controllerLength ⌝ }
+    ensures { λ r. ⌜ r ≡ driveAt (now (c .entry)) ⌝ }
+{
+    Drive {
         cylinder: c[39],
         seek: seek_at(c[40]),
         disk: flag_at(c[41]),
-    };
+    }
+}
+
+// The registers that are in these bytes.
+pub fn decode(c: &[u8]) -> Regs
+    requires { ⌜ length (now c) ≡ controllerLength ⌝ }
+    ensures { λ r. ⌜ r ≡ regsAt (now (c .entry)) ⌝ }
+{
+    let command = command_at(c);
+    let reply = reply_at(c);
+    let write = write_at(c);
+    let drive = drive_at(c);
     Regs {
         command,
         count: c[9],
         reply,
         place: c[17],
         fill: c[18],
-        from: long(c[19], c[20], c[21], c[22]),
-        until: long(c[23], c[24], c[25], c[26]),
+        from: long_at(c, 19),
+        until: long_at(c, 23),
         lost: c[27],
         motor: flag_at(c[28]),
-        index: word(c[29], c[30]),
+        index: word_at(c, 29),
         write,
         drive,
     }

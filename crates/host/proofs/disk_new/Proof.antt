@@ -1,0 +1,26 @@
+use Rattle.host.specs.Calls.{worded}
+use Rattle.store.specs.Calls.{outcome}
+use Prim.Native.Nat.{ℕ}
+use mathlib.Core.Path.{_≡_, refl, sym, ap, _∙_}
+use borrow.Author.Needs.{needs}
+use Rattle.host.proofs.disk_new.Statement.{statement}
+use Rattle.host.proofs.disk_new.Tie as tie
+
+new-requires : tie.Need-new-requires
+new-requires c κs = search needs
+
+done-word-requires : tie.Need-done-word-requires
+done-word-requires c κs = search needs
+
+same-length : tie.Need-same-length
+same-length c = search needs
+
+same-length-2 : tie.Need-same-length-2
+same-length-2 c = search needs
+
+returns : tie.Need-returns
+returns c = ap (λ (w : ℕ). outcome w (c .before .before .before .before .before .new .last .1 .0) (c .before .before .before .before .before .new .last .1 .1 .0)) (c .done-word .ensures) ∙ ap worded (c .before .before .before .before .before .new .ensures)
+
+pub disk-new-spec : {M : Type 1} → statement M
+disk-new-spec =
+    tie.close (tie.spec new-requires done-word-requires same-length same-length-2 returns)

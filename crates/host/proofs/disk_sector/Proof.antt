@@ -1,0 +1,52 @@
+use native.Mathlib.Omega.{arith}
+use Rattle.store.specs.declared.find.Place.the-variants as place
+use Rattle.host.proofs.Images.{part-word, part-ends, part-few, part-is}
+use mathlib.Core.Path.{_≡_, refl, sym, ap, _∙_}
+use borrow.Author.Needs.{needs}
+use Rattle.host.proofs.disk_sector.Statement.{statement}
+use Rattle.host.proofs.disk_sector.Tie as tie
+
+locate-requires : tie.Need-locate-requires
+locate-requires c κs = search needs
+
+enum-told : tie.Need-enum-told
+enum-told c = search needs
+
+enum-told-2 : tie.Need-enum-told-2
+enum-told-2 c = search needs
+
+enum-known-from : tie.Need-enum-known-from
+enum-known-from c = search needs
+
+mul-result : tie.Need-mul-result
+mul-result c = omega (arith, part-ends _ _ _ _ _ _ (c .before .before .before .locate .ensures) _ _ _ _ (c .before .from .given .1), part-few _ _ _ _ _ _ (c .before .before .before .locate .ensures) _ _ _ _ (c .before .from .given .1))
+
+sub-result : tie.Need-sub-result
+sub-result c = omega (arith, part-ends _ _ _ _ _ _ (c .before .before .before .locate .ensures) _ _ _ _ (c .before .from .given .1))
+
+add-result : tie.Need-add-result
+add-result c = omega (arith, part-ends _ _ _ _ _ _ (c .before .before .before .locate .ensures) _ _ _ _ (c .before .from .given .1), part-few _ _ _ _ _ _ (c .before .before .before .locate .ensures) _ _ _ _ (c .before .from .given .1))
+
+returns : tie.Need-returns
+returns c = part-word _ _ _ _ _ _ (c .before .before .locate .ensures) _ (c .enum-told .given .1)
+
+returns-2 : tie.Need-returns-2
+returns-2 c = part-word _ _ _ _ _ _ (c .before .before .locate .ensures) _ (c .enum-told2 .given .1)
+
+returns-3 : tie.Need-returns-3
+returns-3 c = part-is _ _ _ _ _ _ (c .before .before .before .locate .ensures) _ _ _ _ (c .before .from .given .1)
+
+pub disk-sector-spec : {M : Type 1} → statement M
+disk-sector-spec =
+    tie.close
+    (tie.spec
+    locate-requires
+    enum-told
+    enum-told-2
+    enum-known-from
+    mul-result
+    sub-result
+    add-result
+    returns
+    returns-2
+    returns-3)

@@ -1,0 +1,24 @@
+use Rattle.host.proofs.Images.{new-bad, new-good}
+use mathlib.Core.Path.{_≡_, refl, sym, ap, _∙_}
+use borrow.Author.Needs.{needs}
+use Rattle.host.proofs.floppy_new.Statement.{statement}
+use Rattle.host.proofs.floppy_new.Tie as tie
+
+refusal-word-requires : tie.Need-refusal-word-requires
+refusal-word-requires c κs = search needs
+
+returns : tie.Need-returns
+returns c = new-bad _ _ (c .before .if1 .taken) (c .refusal-word .ensures)
+
+fill-requires : tie.Need-fill-requires
+fill-requires c κs = search needs
+
+same-length : tie.Need-same-length
+same-length c = search needs
+
+returns-2 : tie.Need-returns-2
+returns-2 c = new-good _ _ (c .before .before .before .before .if1 .left) (c .before .before .fill .ensures)
+
+pub floppy-new-spec : {M : Type 1} → statement M
+floppy-new-spec =
+    tie.close (tie.spec refusal-word-requires returns fill-requires same-length returns-2)

@@ -1,0 +1,40 @@
+use Prim.Native.Nat.{ℕ}
+use Rattle.host.specs.Calls.{answered, writtenAs}
+use Rattle.store.specs.declared.answer.Done.{Done}
+use mathlib.Core.Path.{_≡_, refl, sym, ap, _∙_}
+use borrow.Author.Needs.{needs}
+use Rattle.host.proofs.settle.Statement.{statement}
+use Rattle.host.proofs.settle.Tie as tie
+
+enum-told : tie.Need-enum-told
+enum-told c = search needs
+
+encode-requires : tie.Need-encode-requires
+encode-requires c κs = search needs
+
+enum-known-done : tie.Need-enum-known-done
+enum-known-done c = search needs
+
+refusal-word-requires : tie.Need-refusal-word-requires
+refusal-word-requires c κs = search needs
+
+same-length : tie.Need-same-length
+same-length c = search needs
+
+returns : tie.Need-returns
+returns c = ap (answered 0) (c .before .before .encode .ensures) ∙ ap (λ (z : Done). writtenAs (c .before .before .before .before .before .before .before .before .args .controller .now) z (c .before .before .before .before .before .before .before .before .args .a .regs)) (sym (c .before .before .before .before .enum-told .given .1))
+
+returns-2 : tie.Need-returns-2
+returns-2 c = ap (λ (w : ℕ). answered w (c .before .before .before .before .before .before .args .controller .now)) (c .refusal-word .ensures) ∙ ap (λ (z : Done). writtenAs (c .before .before .before .before .before .before .args .controller .now) z (c .before .before .before .before .before .before .args .a .regs)) (sym (c .before .before .done .given .1))
+
+pub settle-spec : {M : Type 1} → statement M
+settle-spec =
+    tie.close
+    (tie.spec
+    enum-told
+    encode-requires
+    enum-known-done
+    refusal-word-requires
+    same-length
+    returns
+    returns-2)
