@@ -37,13 +37,15 @@ fn folder() -> Result<PathBuf, String> {
     }
 }
 
-/// The folder that the variable names.
+/// The folder that the variable names, from the crate's own folder if it is relative.
 fn named_folder(folder: PathBuf) -> Result<PathBuf, String> {
-    if folder.join(LIBRARY).is_file() {
-        return Ok(folder);
+    match folder.canonicalize() {
+        Ok(whole) if whole.join(LIBRARY).is_file() => Ok(whole),
+        _ => {
+            let folder = folder.display();
+            Err(format!("{VARIABLE} is {folder}, which has no {LIBRARY}"))
+        }
     }
-    let folder = folder.display();
-    Err(format!("{VARIABLE} is {folder}, which has no {LIBRARY}"))
 }
 
 /// The folder of this repository, into which the library is built if it is not there.

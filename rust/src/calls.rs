@@ -190,3 +190,48 @@ fn answer(word: u64) -> Result<u8, Refusal> {
 fn done(word: u64) -> Result<(), Refusal> {
     answer(word).map(|_| ())
 }
+
+#[cfg(test)]
+mod tests {
+    use super::*;
+
+    #[test]
+    fn lengths_are_those_of_the_documents() {
+        assert_eq!(controller_length(), 1_066);
+        assert_eq!(table_length(), 17_609);
+    }
+
+    #[test]
+    fn a_refused_call_answers_its_number_alone() {
+        let mut own = vec![0; controller_length() + 1];
+        let mut table = vec![0; table_length()];
+        let mut data = [0; 1];
+        let image = [0; 12];
+        let (own, length) = (own.as_mut_ptr(), own.len());
+        let (table, rows) = (table.as_mut_ptr(), table.len());
+        let (data, room) = (data.as_mut_ptr(), data.len());
+        let words = unsafe {
+            [
+                ffi::floppy_new(own, length),
+                ffi::floppy_motor(own, length),
+                ffi::disk_geometry(table, rows - 1, data, room),
+                ffi::disk_new(image.as_ptr(), 11, table, rows, data, room),
+                ffi::disk_new(image.as_ptr(), 12, table, rows, data, room),
+                ffi::disk_new_formatted(table, rows, data, room),
+            ]
+        };
+        assert_eq!(words, [0x100, 0x100, 0x200, 0x300, 0x400, 0x800]);
+    }
+
+    #[test]
+    fn an_empty_store_has_no_sector_and_no_place() {
+        let id = SectorId {
+            c: 0,
+            h: 0,
+            r: 1,
+            n: 2,
+        };
+        assert_eq!(has_sector(&[], &[], 0, 0, id), Err(Refusal::BadStore));
+        assert!(sector(&[], &[], 0, 0, id).is_empty());
+    }
+}

@@ -52,9 +52,11 @@ impl Controller {
     /// [`Refusal::BadController`] where no controller has such bytes.
     pub fn from_bytes(bytes: &[u8]) -> Result<Controller, Refusal> {
         let (own, transfer) = bytes.split_at(bytes.len().min(calls::controller_length()));
+        let room = transfer.len().min(Controller::LARGEST_TRANSFER_ROOM);
+        let transfer = &transfer[..room];
         judge(own, transfer)?;
         let mut controller = Controller {
-            bytes: bytes.to_vec(),
+            bytes: [own, transfer].concat(),
             disk: None,
         };
         controller.set_disk(None);

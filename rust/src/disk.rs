@@ -61,8 +61,10 @@ impl Disk {
     }
 
     /// The disk whose [`table`](Disk::table) and [`data`](Disk::data) these are, as when a session is taken up
-    /// again. The length of `data` is its room. [`Refusal::BadStore`] where they do not hold a disk.
-    pub fn from_parts(table: Vec<u8>, data: Vec<u8>) -> Result<Disk, Refusal> {
+    /// again. Its room is the length of `data`, or [`LARGEST_ROOM`](Disk::LARGEST_ROOM) if that is less.
+    /// [`Refusal::BadStore`] where they do not hold a disk.
+    pub fn from_parts(table: Vec<u8>, mut data: Vec<u8>) -> Result<Disk, Refusal> {
+        data.truncate(Disk::LARGEST_ROOM);
         calls::geometry(&table, &data)?;
         Ok(Disk { table, data })
     }

@@ -3,10 +3,12 @@
 mod changes;
 mod disks;
 mod images;
+mod noise;
 mod refusals;
 mod saves;
 mod sessions;
 mod snapshots;
+mod views;
 
 use kafondiye::{Controller, Disk, Refusal, SectorId};
 
