@@ -18,7 +18,11 @@ fn main() {
             println!("cargo::rustc-link-search=native={}", folder.display());
             println!("cargo::rustc-link-lib=static=host");
         }
-        Err(message) => println!("cargo::error={message}"),
+        Err(message) => {
+            for line in message.lines() {
+                println!("cargo::error={line}");
+            }
+        }
     }
 }
 
@@ -76,9 +80,9 @@ fn build_library(root: &Path, folder: &Path) -> Result<(), String> {
     if built.status.success() && folder.join(LIBRARY).is_file() {
         return Ok(());
     }
-    eprint!("{}", String::from_utf8_lossy(&built.stdout));
-    eprint!("{}", String::from_utf8_lossy(&built.stderr));
+    let said = [built.stdout, built.stderr].concat();
     Err(format!(
-        "{missing}, and 'rt staticlib host' does not build it"
+        "{missing}, and 'rt staticlib host' does not build it:\n{}",
+        String::from_utf8_lossy(&said)
     ))
 }

@@ -42,6 +42,7 @@ fn a_seek_runs_until_one_sense_interrupt() {
     send(&mut controller, &[0x08]);
     assert_eq!(status(&mut controller), 0xd1);
     assert_eq!(read(&mut controller, 2), [0x20, 0x05]);
+    assert_eq!(status(&mut controller), 0x80);
     assert_eq!(reply(&mut controller, &[0x08], 2), [0x80, 0x05]);
 }
 

@@ -89,6 +89,45 @@ fn bytes_without_the_room_for_their_data_are_1() {
     assert!(cut(own + 512).is_ok());
 }
 
+/// Where the bytes of two controllers differ, this value is refused.
+fn too_much(one: &Controller, other: &Controller, value: u8) {
+    let mut bytes = one.as_bytes().to_vec();
+    for (byte, other) in bytes.iter_mut().zip(other.as_bytes()) {
+        if byte != other {
+            *byte = value;
+        }
+    }
+    let refusal = Controller::from_bytes(&bytes).err();
+    assert_eq!(refusal, Some(Refusal::BadController));
+}
+
+#[test]
+fn a_flag_over_1_is_1() {
+    let new = Controller::new();
+    too_much(&new, &fresh(), 2);
+    let mut running = Controller::new();
+    running.set_motor(true);
+    too_much(&new, &running, 2);
+}
+
+#[test]
+fn a_seek_state_over_2_is_1() {
+    // A seek of drive 1 does nothing, and is told from one of drive 0 only by the byte that names the drive.
+    let [mut one, mut other] = [Controller::new(), Controller::new()];
+    send(&mut one, &[0x0f, 0x00, 0x00]);
+    send(&mut other, &[0x0f, 0x01, 0x00]);
+    too_much(&one, &other, 3);
+}
+
+#[test]
+fn a_lost_count_over_2_is_1() {
+    let mut controller = fresh();
+    send(&mut controller, &read_data(FIRST, 1));
+    let before = controller.clone();
+    status(&mut controller);
+    too_much(&before, &controller, 3);
+}
+
 #[test]
 fn bytes_that_no_controller_has_are_1() {
     let bytes = vec![0xff; Controller::new().as_bytes().len()];
