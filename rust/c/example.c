@@ -18,7 +18,7 @@ static uint8_t data[SECTOR], transfer[SECTOR];
 /* The byte that a word answers. A refusal ends the program. */
 static uint8_t answer(uint64_t word)
 {
-    if (kafondiye_refusal_of(word) != KAFONDIYE_TAKEN) {
+    if (kafondiye_refusal_of(word) != KAFONDIYE_NOT_REFUSED) {
         fprintf(stderr, "example: refusal %d\n", (int)kafondiye_refusal_of(word));
         exit(EXIT_FAILURE);
     }

@@ -30,7 +30,7 @@ extern "C" {
 
 /* Why a call was refused. Number 10 belongs to a program that lists images, and no call answers it. */
 enum kafondiye_refusal {
-    KAFONDIYE_TAKEN = 0,            /* not refused */
+    KAFONDIYE_NOT_REFUSED = 0,
     KAFONDIYE_BAD_CONTROLLER = 1,   /* no controller has these bytes, or its data exceed the transfer room */
     KAFONDIYE_BAD_STORE = 2,        /* table of the wrong length, or table and data do not hold a disk */
     KAFONDIYE_SHORT_IMAGE = 3,      /* the image ends before a byte that is needed */
@@ -99,7 +99,10 @@ uint64_t floppy_set_disk(uint8_t *controller, size_t length, uint8_t present);
 /* Answers 1 where a disk is in the drive. */
 uint64_t floppy_disk(const uint8_t *controller, size_t length);
 
-/* Reads the main status. While data are unread, every third status read in a row loses a byte of them. */
+/*
+ * Reads the main status. While data are unread, every third status read with no data-port read between loses a byte
+ * of them.
+ */
 uint64_t floppy_read_status(uint8_t *controller, size_t length);
 
 /* Reads a byte from the data port: unread data, else an unread reply, else 0. */

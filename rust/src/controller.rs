@@ -113,8 +113,8 @@ impl Controller {
 
     /// Reads the main status.
     ///
-    /// While data are unread, every third status read in a row loses a byte of them, as on the real machine where
-    /// the next byte overruns one that is not fetched. No status read of a `Controller` is refused.
+    /// While data are unread, every third status read with no data-port read between loses a byte of them, as the
+    /// next byte from a disk overruns one that is not fetched. No status read of a `Controller` is refused.
     pub fn read_status(&mut self) -> Result<u8, Refusal> {
         calls::read_status(self.parts_mut().0)
     }

@@ -68,6 +68,19 @@ fn the_transfer_room_is_kept_with_the_bytes() {
 }
 
 #[test]
+fn room_beyond_the_largest_is_left_out() {
+    let mut bytes = Controller::new().as_bytes().to_vec();
+    bytes.push(0);
+    let controller = Controller::from_bytes(&bytes).expect("good bytes");
+    let largest = Controller::LARGEST_TRANSFER_ROOM;
+    assert_eq!(controller.transfer_room(), largest);
+    let disk = Disk::new_formatted();
+    let data = vec![0; Disk::LARGEST_ROOM + 1];
+    let disk = Disk::from_parts(disk.table().to_vec(), data).expect("good parts");
+    assert_eq!(disk.room(), Disk::LARGEST_ROOM);
+}
+
+#[test]
 fn bytes_that_are_cut_short_are_1() {
     let controller = fresh();
     let own = controller.as_bytes().len() - controller.transfer_room();
