@@ -1,0 +1,143 @@
+/*
+ * Reads a sector through the ports, changes it, saves it through the ports and reads it again, on a small image that
+ * is made here. It prints what examples/save.rs prints.
+ */
+#include <stdio.h>
+#include <stdlib.h>
+#include <string.h>
+
+#include "kafondiye.h"
+
+enum { EXECUTING = 0x20, GIVES = 0x40, SECTOR = 256 };
+
+/* What the library is lent. */
+static uint8_t *controller, *table;
+static size_t controller_length, table_length;
+static uint8_t data[SECTOR], transfer[SECTOR];
+
+/* The byte that a word answers. A refusal ends the program. */
+static uint8_t answer(uint64_t word)
+{
+    if (kafondiye_refusal_of(word) != KAFONDIYE_NOT_REFUSED) {
+        fprintf(stderr, "example: refusal %d\n", (int)kafondiye_refusal_of(word));
+        exit(EXIT_FAILURE);
+    }
+    return kafondiye_byte(word);
+}
+
+static uint8_t status(void)
+{
+    return answer(floppy_read_status(controller, controller_length));
+}
+
+static void send(const uint8_t *bytes, size_t count)
+{
+    for (size_t place = 0; place < count; place++)
+        answer(floppy_write_cmd(controller, controller_length, table, table_length, data, sizeof data, transfer,
+                                sizeof transfer, bytes[place]));
+}
+
+/* Reads from the data port as long as the status has this bit, and says how many bytes there were. */
+static size_t take(uint8_t bit, uint8_t *bytes, size_t room)
+{
+    size_t count = 0;
+    while (count < room && (status() & bit) != 0)
+        bytes[count++] = answer(floppy_read_cmd(controller, controller_length, transfer, sizeof transfer));
+    return count;
+}
+
+static void print_bytes(const uint8_t *bytes, size_t count)
+{
+    for (size_t place = 0; place < count; place++)
+        printf("%s%02x", place == 0 ? "" : " ", bytes[place]);
+}
+
+/* Takes the reply, and prints how many bytes there were, the first of them, and the reply. */
+static void show(const char *what, const uint8_t *bytes, size_t count)
+{
+    uint8_t reply[7];
+    size_t length = take(GIVES, reply, sizeof reply);
+    printf("%s: %d bytes, ", what, (int)count);
+    print_bytes(bytes, count < 4 ? count : 4);
+    printf(" .., reply ");
+    print_bytes(reply, length);
+    printf("\n");
+}
+
+/* Read Data, or Write Data, of the sector with this ID. */
+static void command(uint8_t first, const uint8_t id[4])
+{
+    const uint8_t bytes[9] = {first, 0x00, id[0], id[1], id[2], id[3], id[2], 0x2a, 0xff};
+    send(bytes, sizeof bytes);
+}
+
+/* Loads an extended image with one track, which has one sector of 256 bytes: 00, 01, 02 and so on. */
+static void load(void)
+{
+    static const uint8_t track[] = {'T', 'r', 'a', 'c', 'k', '-', 'I', 'n', 'f', 'o', '\r', '\n', 0, 0, 0, 0,
+                                    0,   0,   0,   0,   1,   1,   0x52, 0xe5, /* size 1, one sector, gap, filler */
+                                    0,   0,   1,   1,   0,   0,   0,    1};   /* c, h, r, n, st1, st2, stored length */
+    static uint8_t image[0x200 + SECTOR] = "EXTENDED CPC DSK File\r\nDisk-Info\r\n";
+    uint64_t geometry;
+    image[0x30] = 1; /* tracks */
+    image[0x31] = 1; /* sides */
+    image[0x34] = 2; /* the track's size in units of 256 bytes */
+    memcpy(image + 0x100, track, sizeof track);
+    for (size_t place = 0; place < SECTOR; place++)
+        image[0x200 + place] = (uint8_t)place;
+    answer(disk_new(image, sizeof image, table, table_length, data, sizeof data));
+    geometry = disk_geometry(table, table_length, data, sizeof data);
+    printf("image: %d bytes, geometry (%d, %d)\n", (int)sizeof image, answer(geometry),
+           kafondiye_other_sides(geometry));
+}
+
+/* Seeks, reads the first ID of the track, and prints both. */
+static void find(uint8_t id[4])
+{
+    static const uint8_t seek[] = {0x0f, 0x00, 0x00, 0x08}, read_id[] = {0x4a, 0x00};
+    uint8_t reply[7];
+    send(seek, sizeof seek);
+    printf("seek: ");
+    print_bytes(reply, take(GIVES, reply, sizeof reply));
+    send(read_id, sizeof read_id);
+    take(GIVES, reply, sizeof reply);
+    memcpy(id, reply + 3, 4);
+    printf("\nsector: c %d h %d r %d n %d\n", id[0], id[1], id[2], id[3]);
+}
+
+int main(void)
+{
+    uint8_t id[4], bytes[SECTOR], again[SECTOR];
+    size_t count, length;
+    controller_length = (size_t)floppy_controller_length();
+    table_length = (size_t)disk_table_length();
+    controller = malloc(controller_length);
+    table = malloc(table_length);
+    if (controller == NULL || table == NULL)
+        return EXIT_FAILURE;
+    load();
+    answer(floppy_new(controller, controller_length));
+    answer(floppy_set_motor(controller, controller_length, 1));
+    answer(floppy_set_disk(controller, controller_length, 1));
+    find(id);
+
+    command(0x46, id);
+    count = take(EXECUTING, bytes, sizeof bytes);
+    show("read", bytes, count);
+    command(0x45, id);
+    for (length = 0; length < count && (status() & EXECUTING) != 0; length++) {
+        bytes[length] = (uint8_t)~bytes[length];
+        send(bytes + length, 1);
+    }
+    show("saved", bytes, length);
+    command(0x46, id);
+    count = take(EXECUTING, again, sizeof again);
+    show("read again", again, count);
+
+    if (count != length || memcmp(again, bytes, count) != 0)
+        return EXIT_FAILURE;
+    printf("what was read again is what was saved\n");
+    free(controller);
+    free(table);
+    return EXIT_SUCCESS;
+}

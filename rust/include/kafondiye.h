@@ -1,0 +1,146 @@
+/*
+ * A floppy controller (uPD765A) that is proved, and its disks: the calls of the static library libhost.a (x86-64,
+ * Linux). src/ffi.rs declares the same for Rust.
+ *
+ * All bytes are the host's. It lends them to each call, and the library keeps nothing between calls:
+ *
+ *   controller   floppy_controller_length() bytes, made by floppy_new; docs/HOST.md has their layout
+ *   table        disk_table_length() bytes, and
+ *   data         bytes for the sectors' contents (room: its length, or 1,048,576 if that is less): together the
+ *                store, which holds one disk; made by disk_new or disk_new_formatted; docs/STORE.md has the layout
+ *   transfer     bytes for what a Read Data reads (room: its length, or 65,536 if that is less); lend the same ones
+ *                until they are read
+ *
+ * A part is a pointer and a length. The pointer is not null, even where the length is 0, and no two parts overlap of
+ * which one may be changed. A length that does not fit and bytes that cannot be are refused, so no call needs a
+ * check before it.
+ *
+ * Unless its comment says otherwise, a call answers a word: see kafondiye_byte and kafondiye_refusal_of. A refused call
+ * has changed no byte.
+ */
+#ifndef KAFONDIYE_H
+#define KAFONDIYE_H
+
+#include <stddef.h>
+#include <stdint.h>
+
+#ifdef __cplusplus
+extern "C" {
+#endif
+
+/* Why a call was refused. Number 10 belongs to a program that lists images, and no call answers it. */
+enum kafondiye_refusal {
+    KAFONDIYE_NOT_REFUSED = 0,
+    KAFONDIYE_BAD_CONTROLLER = 1,   /* no controller has these bytes, or its data exceed the transfer room */
+    KAFONDIYE_BAD_STORE = 2,        /* table of the wrong length, or table and data do not hold a disk */
+    KAFONDIYE_SHORT_IMAGE = 3,      /* the image ends before a byte that is needed */
+    KAFONDIYE_NOT_AN_IMAGE = 4,     /* the file is no DSK image */
+    KAFONDIYE_NOT_A_TRACK = 5,      /* a track of the image has no track signature */
+    KAFONDIYE_TOO_MANY_TRACKS = 6,  /* the disk would have more than 204 tracks */
+    KAFONDIYE_TOO_MANY_SECTORS = 7, /* the disk would have more than 2,048 sectors */
+    KAFONDIYE_NO_ROOM = 8,          /* the disk's bytes would exceed the data room */
+    KAFONDIYE_NO_TRANSFER_ROOM = 9  /* the bytes of a Read Data exceed the transfer room */
+};
+
+/* The byte that a word answers, 0 where it answers none: bits 0 to 7. */
+static inline uint8_t kafondiye_byte(uint64_t word)
+{
+    return (uint8_t)(word & 0xff);
+}
+
+/* Why the call was refused, 0 where it was not: bits 8 to 15. */
+static inline enum kafondiye_refusal kafondiye_refusal_of(uint64_t word)
+{
+    return (enum kafondiye_refusal)(word >> 8 & 0xff);
+}
+
+/* The greatest cylinder of the sides other than 0, out of the answer of disk_geometry: bits 16 to 23. */
+static inline uint8_t kafondiye_other_sides(uint64_t word)
+{
+    return (uint8_t)(word >> 16 & 0xff);
+}
+
+/* How many bytes a sector has, out of the answer of disk_sector: bits 0 to 31. */
+static inline size_t kafondiye_length(uint64_t word)
+{
+    return (size_t)(word & 0xffffffff);
+}
+
+/* At which place of the data buffer they begin, out of the answer of disk_sector: bits 32 to 63. */
+static inline size_t kafondiye_place(uint64_t word)
+{
+    return (size_t)(word >> 32);
+}
+
+/* How many bytes a controller has. Not a word but a plain number. */
+uint64_t floppy_controller_length(void);
+
+/* How many bytes a disk's table has. Not a word but a plain number. */
+uint64_t disk_table_length(void);
+
+/* Makes the bytes those of a new controller, with no disk in the drive. */
+uint64_t floppy_new(uint8_t *controller, size_t length);
+
+/* Switches the motor: 0 off, else on. No command depends on it. */
+uint64_t floppy_set_motor(uint8_t *controller, size_t length, uint8_t on);
+
+/* Answers 1 where the motor is on. */
+uint64_t floppy_motor(const uint8_t *controller, size_t length);
+
+/* Answers the cylinder that the head is over. */
+uint64_t floppy_current_track(const uint8_t *controller, size_t length);
+
+/*
+ * Says whether a disk is in the drive: 0 none, else the one whose store is lent from now on. Nothing else changes: a
+ * write in progress ends on the disk that is in when its last byte comes.
+ */
+uint64_t floppy_set_disk(uint8_t *controller, size_t length, uint8_t present);
+
+/* Answers 1 where a disk is in the drive. */
+uint64_t floppy_disk(const uint8_t *controller, size_t length);
+
+/*
+ * Reads the main status. While data are unread, every third status read with no data-port read between loses a byte
+ * of them.
+ */
+uint64_t floppy_read_status(uint8_t *controller, size_t length);
+
+/* Reads a byte from the data port: unread data, else an unread reply, else 0. */
+uint64_t floppy_read_cmd(uint8_t *controller, size_t length, const uint8_t *transfer, size_t transfer_length);
+
+/*
+ * Sends a byte to the data port: of a command, or of the data of a write. A refused byte is not taken and may be
+ * sent again, with more room. With no disk in the drive table and data are not looked at and may have length 0.
+ */
+uint64_t floppy_write_cmd(uint8_t *controller, size_t length, uint8_t *table, size_t table_length, uint8_t *data,
+                          size_t data_length, uint8_t *transfer, size_t transfer_length, uint8_t b);
+
+/* Loads a DSK image, normal or extended, into a store. */
+uint64_t disk_new(const uint8_t *image, size_t image_length, uint8_t *table, size_t table_length, uint8_t *data,
+                  size_t data_length);
+
+/* Makes a store that of a freshly formatted disk: cylinders 0 to 39, nine sectors of 512 bytes each. */
+uint64_t disk_new_formatted(uint8_t *table, size_t table_length, uint8_t *data, size_t data_length);
+
+/* Answers the greatest cylinder of side 0, and beside it that of the other sides: kafondiye_other_sides. */
+uint64_t disk_geometry(const uint8_t *table, size_t table_length, const uint8_t *data, size_t data_length);
+
+/*
+ * Answers 1 where there is a sector with the ID c, h, r, n on the first track of that side and cylinder, 0 where
+ * there is none.
+ */
+uint64_t disk_has_sector(const uint8_t *table, size_t table_length, const uint8_t *data, size_t data_length,
+                         uint8_t side, uint8_t cylinder, uint8_t c, uint8_t h, uint8_t r, uint8_t n);
+
+/*
+ * Finds the bytes of that sector in the data buffer: kafondiye_place, kafondiye_length. Not a word: 0 where there is
+ * none or the store is refused. A sector may have no bytes; disk_has_sector tells it from one that is not there.
+ */
+uint64_t disk_sector(const uint8_t *table, size_t table_length, const uint8_t *data, size_t data_length,
+                     uint8_t side, uint8_t cylinder, uint8_t c, uint8_t h, uint8_t r, uint8_t n);
+
+#ifdef __cplusplus
+}
+#endif
+
+#endif

@@ -1,0 +1,179 @@
+//! The controller: its bytes, the transfer buffer, and the disk in the drive.
+
+use std::fmt;
+use std::mem;
+
+use crate::{Disk, Refusal, calls};
+
+/// Why a call on a controller is not refused with 1.
+const GOOD: &str = "a controller's bytes are good: the library has made or judged them";
+
+/// A floppy controller with one drive.
+///
+/// The calls have the names and the meaning of the ports: a status register, and a data register that takes
+/// command bytes and data and gives data and replies. Nothing happens between calls.
+#[derive(Clone)]
+pub struct Controller {
+    /// The controller's bytes, and at once behind them the transfer buffer.
+    bytes: Vec<u8>,
+    /// Whether there is one is also written in the bytes, and always the same.
+    disk: Option<Disk>,
+}
+
+impl Controller {
+    /// The largest transfer room that a controller can use, in bytes.
+    pub const LARGEST_TRANSFER_ROOM: usize = 65_536;
+
+    /// A new controller, with no disk and the largest transfer room.
+    pub fn new() -> Controller {
+        Controller::with_transfer_room(Controller::LARGEST_TRANSFER_ROOM)
+    }
+
+    /// A new controller whose transfer buffer, in which the bytes of a Read Data lie until they are read, has
+    /// this many bytes, or [`LARGEST_TRANSFER_ROOM`](Controller::LARGEST_TRANSFER_ROOM) if that is less.
+    pub fn with_transfer_room(room: usize) -> Controller {
+        let room = room.min(Controller::LARGEST_TRANSFER_ROOM);
+        let mut bytes = vec![0; calls::controller_length() + room];
+        calls::new(&mut bytes[..calls::controller_length()])
+            .expect("a new controller has the length that the library calls for");
+        Controller { bytes, disk: None }
+    }
+
+    /// All that the controller is, without the disk: its own bytes, in the layout of `docs/HOST.md`, and behind
+    /// them the whole transfer buffer, with the data that are unread and what is left of earlier ones. With a
+    /// disk's [`table`](Disk::table) and [`data`](Disk::data) this is a session, which can be taken up later.
+    pub fn as_bytes(&self) -> &[u8] {
+        &self.bytes
+    }
+
+    /// The controller that gave these bytes by [`as_bytes`](Controller::as_bytes), with no disk in the drive.
+    /// Once its disk is [put in](Controller::set_disk), it goes on as that controller would have.
+    ///
+    /// [`Refusal::BadController`] where no controller has such bytes.
+    pub fn from_bytes(bytes: &[u8]) -> Result<Controller, Refusal> {
+        let (own, transfer) = bytes.split_at(bytes.len().min(calls::controller_length()));
+        let room = transfer.len().min(Controller::LARGEST_TRANSFER_ROOM);
+        let transfer = &transfer[..room];
+        judge(own, transfer)?;
+        let mut controller = Controller {
+            bytes: [own, transfer].concat(),
+            disk: None,
+        };
+        controller.set_disk(None);
+        Ok(controller)
+    }
+
+    /// The transfer room.
+    pub fn transfer_room(&self) -> usize {
+        self.parts().1.len()
+    }
+
+    /// Gives the controller this transfer room, or
+    /// [`LARGEST_TRANSFER_ROOM`](Controller::LARGEST_TRANSFER_ROOM) if that is less. Refused with
+    /// [`Refusal::BadController`] where the bytes of the last Read Data need more.
+    pub fn set_transfer_room(&mut self, room: usize) -> Result<(), Refusal> {
+        let room = room.min(Controller::LARGEST_TRANSFER_ROOM);
+        let (own, transfer) = self.parts();
+        if room < transfer.len() {
+            judge(own, &transfer[..room])?;
+        }
+        self.bytes.resize(calls::controller_length() + room, 0);
+        Ok(())
+    }
+
+    /// Switches the motor. No command depends on it.
+    pub fn set_motor(&mut self, on: bool) {
+        calls::set_motor(self.parts_mut().0, on).expect(GOOD)
+    }
+
+    /// Whether the motor is on.
+    pub fn motor(&self) -> bool {
+        calls::motor(self.parts().0).expect(GOOD)
+    }
+
+    /// The cylinder that the head is over.
+    pub fn current_track(&self) -> u8 {
+        calls::current_track(self.parts().0).expect(GOOD)
+    }
+
+    /// Puts a disk into the drive, or none, and hands back the one that was there, with all changes made to it.
+    ///
+    /// Nothing else changes: a command that is half sent, unread data and a write in progress are carried over,
+    /// and the write ends on the disk that is in the drive when its last byte comes.
+    pub fn set_disk(&mut self, disk: Option<Disk>) -> Option<Disk> {
+        calls::set_disk(self.parts_mut().0, disk.is_some()).expect(GOOD);
+        mem::replace(&mut self.disk, disk)
+    }
+
+    /// The disk in the drive.
+    pub fn disk(&self) -> Option<&Disk> {
+        debug_assert_eq!(calls::disk(self.parts().0), Ok(self.disk.is_some()));
+        self.disk.as_ref()
+    }
+
+    /// Reads the main status.
+    ///
+    /// While data are unread, every third status read with no data-port read between loses a byte of them, as the
+    /// next byte from a disk overruns one that is not fetched. No status read of a `Controller` is refused.
+    pub fn read_status(&mut self) -> Result<u8, Refusal> {
+        calls::read_status(self.parts_mut().0)
+    }
+
+    /// Reads a byte from the data port: unread data, else an unread reply, else 0. No read of a `Controller` is
+    /// refused.
+    pub fn read_cmd(&mut self) -> Result<u8, Refusal> {
+        let (own, transfer) = self.parts_mut();
+        calls::read_cmd(own, transfer)
+    }
+
+    /// Sends a byte to the data port: of a command, or of the data of a write.
+    ///
+    /// Only the last byte of a command or of a write can be refused: with [`Refusal::NoTransferRoom`], or with
+    /// [`Refusal::TooManyTracks`], [`Refusal::TooManySectors`] or [`Refusal::NoRoom`] where the disk would grow too
+    /// large. It is not taken then. It may be sent again, after
+    /// [`set_transfer_room`](Controller::set_transfer_room), or after the disk was taken out, given more
+    /// [room](Disk::set_room) and put in again. To be rid of a command that no room can serve, send its last byte
+    /// while the disk is out: the controller replies that the drive is not ready, and no disk changes.
+    pub fn write_cmd(&mut self, byte: u8) -> Result<(), Refusal> {
+        let (own, transfer) = self.bytes.split_at_mut(calls::controller_length());
+        let (table, data) = match &mut self.disk {
+            Some(disk) => disk.buffers(),
+            None => Default::default(),
+        };
+        calls::write_cmd(own, table, data, transfer, byte)
+    }
+
+    /// The controller's own bytes and the transfer buffer.
+    fn parts(&self) -> (&[u8], &[u8]) {
+        self.bytes.split_at(calls::controller_length())
+    }
+
+    /// The same, to be changed.
+    fn parts_mut(&mut self) -> (&mut [u8], &mut [u8]) {
+        self.bytes.split_at_mut(calls::controller_length())
+    }
+}
+
+/// Whether these are the bytes of a controller whose data lie in this transfer buffer. A data-port read is the one
+/// call that judges both and needs no disk; it is done to a copy.
+fn judge(own: &[u8], transfer: &[u8]) -> Result<(), Refusal> {
+    calls::read_cmd(&mut own.to_vec(), transfer).map(|_| ())
+}
+
+impl Default for Controller {
+    fn default() -> Controller {
+        Controller::new()
+    }
+}
+
+/// Shows what a host can ask, and nothing of what was read or written.
+impl fmt::Debug for Controller {
+    fn fmt(&self, f: &mut fmt::Formatter<'_>) -> fmt::Result {
+        f.debug_struct("Controller")
+            .field("motor", &self.motor())
+            .field("current_track", &self.current_track())
+            .field("disk", &self.disk)
+            .field("transfer_room", &self.transfer_room())
+            .finish_non_exhaustive()
+    }
+}
