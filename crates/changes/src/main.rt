@@ -15,7 +15,7 @@ const MOST_PRINTED: usize = 600;
 fn show_fields(fields: &[u8], count: usize) {
     let mut k: usize = 0;
     while k < count {
-        listing::field(listing::byte(fields, k));
+        replay::field(replay::byte(fields, k));
         k += 1;
     }
 }
@@ -43,24 +43,24 @@ fn id_of(fields: &[u8]) -> SectorId {
 }
 
 fn refused(why: image::Refusal) {
-    listing::put(b" ");
-    listing::refused(why);
+    replay::put(b" ");
+    replay::refused(why);
 }
 
 // A call that changed the disk, and the disk.
 fn done(table: &[u8], bytes: &[u8]) {
-    listing::put(b" done\n");
-    let held = listing::measure(table);
+    replay::put(b" done\n");
+    let held = replay::measure(table);
     if MOST_PRINTED < held.sectors {
-        listing::show_totals(held.tracks, held.sectors, held.bytes);
+        replay::show_totals(held.tracks, held.sectors, held.bytes);
     } else {
-        listing::show_tracks(table, bytes);
+        replay::show_tracks(table, bytes);
     }
 }
 
 // Side, cylinder, n, number of sectors, gap, filler.
 fn format(fields: &[u8], table: &mut [u8], bytes: &mut [u8]) {
-    listing::put(b"format");
+    replay::put(b"format");
     show_fields(fields, 6);
     let track = disk::Format {
         cylinder: field_at(fields, 1),
@@ -91,10 +91,10 @@ fn fill_pattern(new: &mut [u8], seed: usize)
 // Side, cylinder, ID, length, seed.
 fn save(fields: &[u8], table: &mut [u8], bytes: &mut [u8], new: &mut [u8]) {
     let len = word_at(fields, 6);
-    listing::put(b"save");
+    replay::put(b"save");
     show_fields(fields, 6);
-    listing::field(len as u64);
-    listing::field(listing::byte(fields, 8));
+    replay::field(len as u64);
+    replay::field(replay::byte(fields, 8));
     fill_pattern(new, image::byte(fields, 8));
     let side = field_at(fields, 0);
     let cylinder = field_at(fields, 1);
@@ -107,7 +107,7 @@ fn save(fields: &[u8], table: &mut [u8], bytes: &mut [u8], new: &mut [u8]) {
         buffer::part(new, 0, len),
     ) {
         disk::Saved::Refused(why) => refused(why),
-        disk::Saved::Missing => listing::put(b" missing\n"),
+        disk::Saved::Missing => replay::put(b" missing\n"),
         disk::Saved::Good => done(table, bytes),
     }
 }
@@ -125,11 +125,11 @@ fn end_st1(served: disk::Served) -> u64 {
 fn show_served(served: disk::Served, transfer: &[u8]) {
     let total = served.total;
     let st2 = served.st2;
-    listing::field(total as u64);
-    listing::field(end_st1(served));
-    listing::field(st2.bits as u64);
-    listing::field(listing::check_of(buffer::part(transfer, 0, total)));
-    listing::put(b"\n");
+    replay::field(total as u64);
+    replay::field(end_st1(served));
+    replay::field(st2.bits as u64);
+    replay::field(replay::check_of(buffer::part(transfer, 0, total)));
+    replay::put(b"\n");
 }
 
 // Reads into so much of the transfer buffer.
@@ -139,17 +139,17 @@ fn read_into(fields: &[u8], table: &[u8], bytes: &[u8], transfer: &mut [u8]) {
     let eot = field_at(fields, 6);
     match disk::read(table, bytes, side, cylinder, id_of(fields), eot, transfer) {
         disk::Reading::Refused(why) => refused(why),
-        disk::Reading::Missing => listing::put(b" missing\n"),
+        disk::Reading::Missing => replay::put(b" missing\n"),
         disk::Reading::Good(served) => show_served(served, transfer),
     }
 }
 
 // Side, cylinder, ID, eot, length of the transfer buffer, which is no longer than the one at hand.
 fn read(fields: &[u8], table: &[u8], bytes: &[u8], transfer: &mut [u8]) {
-    let room = listing::number(fields, 7);
-    listing::put(b"read");
+    let room = replay::number(fields, 7);
+    replay::put(b"read");
     show_fields(fields, 7);
-    listing::field(room as u64);
+    replay::field(room as u64);
     if room < transfer.len() {
         read_into(fields, table, bytes, &mut transfer[..room]);
     } else {
@@ -160,9 +160,9 @@ fn read(fields: &[u8], table: &[u8], bytes: &[u8], transfer: &mut [u8]) {
 // Side, cylinder, index.
 fn ask_id(fields: &[u8], table: &[u8], bytes: &[u8]) {
     let idx = word_at(fields, 2) % 65536;
-    listing::put(b"id");
+    replay::put(b"id");
     show_fields(fields, 2);
-    listing::field(idx as u64);
+    replay::field(idx as u64);
     match store::id_by_idx(
         table,
         bytes,
@@ -171,10 +171,10 @@ fn ask_id(fields: &[u8], table: &[u8], bytes: &[u8]) {
         idx as u16,
     ) {
         store::IdFound::Refused(why) => refused(why),
-        store::IdFound::Missing => listing::put(b" none\n"),
+        store::IdFound::Missing => replay::put(b" none\n"),
         store::IdFound::Of(id) => {
-            listing::show_id(id);
-            listing::put(b"\n");
+            replay::show_id(id);
+            replay::put(b"\n");
         }
     }
 }
@@ -219,7 +219,7 @@ fn perform(kind: u8, fields: &[u8], table: &mut [u8], bytes: &mut [u8], work: &m
 fn operate(table: &mut [u8], bytes: &mut [u8], work: &mut [u8]) -> bool {
     let mut few = [0u8; 11];
     let fields: &mut [u8] = &mut few;
-    if !listing::take(fields, 1) {
+    if !replay::take(fields, 1) {
         return broken();
     }
     let kind = field_at(fields, 0);
@@ -227,7 +227,7 @@ fn operate(table: &mut [u8], bytes: &mut [u8], work: &mut [u8]) -> bool {
     if count == 0 {
         return broken();
     }
-    if !listing::take(fields, count) {
+    if !replay::take(fields, count) {
         return broken();
     }
     perform(kind, fields, table, bytes, work);
@@ -238,7 +238,7 @@ fn operate(table: &mut [u8], bytes: &mut [u8], work: &mut [u8]) -> bool {
 fn operations(table: &mut [u8], bytes: &mut [u8], work: &mut [u8]) -> bool {
     let mut small = [0u8; 2];
     let two: &mut [u8] = &mut small;
-    if !listing::take(two, 2) {
+    if !replay::take(two, 2) {
         return broken();
     }
     let mut left = word_at(two, 0);
@@ -267,12 +267,12 @@ fn run_script(
     bytes: &mut [u8],
     work: &mut [u8],
 ) -> bool {
-    listing::put(b"script ");
-    listing::put(name);
-    listing::put(b"\n");
+    replay::put(b"script ");
+    replay::put(name);
+    replay::put(b"\n");
     match start(image, table, bytes) {
         store::Done::Refused(why) => {
-            listing::refused(why);
+            replay::refused(why);
             false
         }
         store::Done::Good => operations(table, bytes, work),
@@ -287,10 +287,10 @@ fn replay(
     bytes: &mut [u8],
     work: &mut [u8],
 ) -> bool {
-    match listing::take_record(name, image) {
-        listing::Record::End => false,
-        listing::Record::Broken => broken(),
-        listing::Record::Whole { letters, len } => run_script(
+    match replay::take_record(name, image) {
+        replay::Record::End => false,
+        replay::Record::Broken => broken(),
+        replay::Record::Whole { letters, len } => run_script(
             buffer::part(name, 0, letters),
             buffer::part(image, 0, len),
             table,

@@ -77,8 +77,8 @@ fn word_at(bytes: &[u8], at: usize) -> usize
 fn show_hex(bytes: &[u8]) {
     let mut k: usize = 0;
     while k < bytes.len() {
-        listing::put(b" ");
-        io::print_hex(STDOUT_FILENO, listing::byte(bytes, k), 2);
+        replay::put(b" ");
+        io::print_hex(STDOUT_FILENO, replay::byte(bytes, k), 2);
         k += 1;
     }
 }
@@ -86,22 +86,22 @@ fn show_hex(bytes: &[u8]) {
 // Bytes one by one, or their check number where they are many.
 fn show_bytes(bytes: &[u8]) {
     if MOST_HEX < bytes.len() {
-        listing::put(b" check");
-        return listing::field(listing::check_of(bytes));
+        replay::put(b" check");
+        return replay::field(replay::check_of(bytes));
     }
-    listing::put(b":");
+    replay::put(b":");
     show_hex(bytes);
 }
 
 // A word, and a number.
 fn show(word: &[u8], n: usize) {
-    listing::put(word);
-    listing::field(n as u64);
+    replay::put(word);
+    replay::field(n as u64);
 }
 
 fn refused(why: image::Refusal) {
-    listing::put(b" refused");
-    listing::field(why.number() as u64);
+    replay::put(b" refused");
+    replay::field(why.number() as u64);
 }
 
 // The end of a call's line.
@@ -110,7 +110,7 @@ fn end(done: Done) {
         Done::Refused(why) => refused(why),
         Done::Good => {}
     }
-    listing::put(b"\n");
+    replay::put(b"\n");
 }
 
 // The same bench with another controller.
@@ -122,11 +122,11 @@ fn with(mut bench: Bench, floppy: Floppy) -> Bench {
 // Puts disk A or B in, or takes out what is in.
 fn put(mut bench: Bench, which: usize) -> Bench {
     if which == 0 {
-        listing::put(b"put none");
+        replay::put(b"put none");
     } else if which == 1 {
-        listing::put(b"put a");
+        replay::put(b"put a");
     } else {
-        listing::put(b"put b");
+        replay::put(b"put b");
     }
     let f = bench.floppy;
     let a = f.set_disk(0 < which);
@@ -144,9 +144,9 @@ fn put(mut bench: Bench, which: usize) -> Bench {
 
 fn motor(bench: Bench, on: bool) -> Bench {
     if on {
-        listing::put(b"motor on");
+        replay::put(b"motor on");
     } else {
-        listing::put(b"motor off");
+        replay::put(b"motor off");
     }
     let f = bench.floppy;
     let a = f.set_motor(on);
@@ -340,14 +340,14 @@ fn send(
     transfer: &mut [u8],
 ) -> Bench {
     show(b"send", times);
-    listing::field(text.len() as u64);
+    replay::field(text.len() as u64);
     show_bytes(text);
     let s = send_lent(bench, text, times, table, bytes, transfer);
     let done = s.done;
     match done {
         Done::Refused(_) => {
             show(b" after", s.rounds);
-            listing::field(s.taken as u64);
+            replay::field(s.taken as u64);
         }
         Done::Good => {}
     }
@@ -361,9 +361,9 @@ fn show_flag(flag: Flag) {
         Flag::Refused(why) => refused(why),
         Flag::Of(yes) => {
             if yes {
-                listing::put(b" 1");
+                replay::put(b" 1");
             } else {
-                listing::put(b" 0");
+                replay::put(b" 0");
             }
         }
     }
@@ -372,16 +372,16 @@ fn show_flag(flag: Flag) {
 // Motor, track, and whether a disk is in.
 fn ask(bench: Bench) {
     let f = bench.floppy;
-    listing::put(b"ask motor");
+    replay::put(b"ask motor");
     show_flag(f.motor());
-    listing::put(b" track");
+    replay::put(b" track");
     match f.current_track() {
         Byte::Refused(why) => refused(why),
-        Byte::Of(c) => listing::field(c as u64),
+        Byte::Of(c) => replay::field(c as u64),
     }
-    listing::put(b" disk");
+    replay::put(b" disk");
     show_flag(f.disk());
-    listing::put(b"\n");
+    replay::put(b"\n");
 }
 
 fn seek_number(seek: Seek) -> usize {
@@ -398,15 +398,15 @@ fn show_write(f: Floppy) {
     let w = r.write;
     let id = w.id;
     if !w.on {
-        return listing::put(b" write none\n");
+        return replay::put(b" write none\n");
     }
     let taken = w.taken as usize;
     show(b" write", distance(taken, id.len()));
     let five = [w.c1, id.c, id.h, id.r, id.n];
     show_hex(&five);
     let held = f.held;
-    listing::field(listing::check_of(buffer::part(&held, 0, taken)));
-    listing::put(b"\n");
+    replay::field(replay::check_of(buffer::part(&held, 0, taken)));
+    replay::put(b"\n");
 }
 
 // What is unread of the reply, and of the data.
@@ -414,11 +414,11 @@ fn show_unread(r: Regs, transfer: &[u8]) {
     let reply = r.reply;
     let place = r.place as usize;
     let from = r.from as usize;
-    listing::put(b" reply");
+    replay::put(b" reply");
     show_hex(buffer::part(&reply, place, distance(place, r.fill as usize)));
     let data = buffer::part(transfer, from, distance(from, r.until as usize));
     show(b" data", data.len());
-    listing::field(listing::check_of(data));
+    replay::field(replay::check_of(data));
 }
 
 // Seek state, lost count and ID index, and the bytes of a command that is partly sent.
@@ -429,7 +429,7 @@ fn show_numbers(r: Regs) {
     show(b" seek", seek_number(seek));
     show(b" lost", r.lost as usize);
     show(b" index", r.index as usize);
-    listing::put(b" command");
+    replay::put(b" command");
     show_hex(buffer::part(&command, 0, r.count as usize));
 }
 
@@ -437,7 +437,7 @@ fn show_numbers(r: Regs) {
 fn boxes(bench: Bench, transfer: &[u8]) {
     let f = bench.floppy;
     let r = f.regs;
-    listing::put(b"boxes");
+    replay::put(b"boxes");
     show_numbers(r);
     show_unread(r, transfer);
     show_write(f);
@@ -445,10 +445,10 @@ fn boxes(bench: Bench, transfer: &[u8]) {
 
 // So much of a buffer is lent from now on: 1 the table, 2 the data, 3 the transfer buffer.
 fn lend(mut bench: Bench, which: usize, text: &[u8]) -> Bench {
-    let len = listing::number(text, 0);
+    let len = replay::number(text, 0);
     show(b"lend", which);
-    listing::field(len as u64);
-    listing::put(b"\n");
+    replay::field(len as u64);
+    replay::put(b"\n");
     if which == 1 {
         bench.table = len;
     }
@@ -465,8 +465,8 @@ fn lend(mut bench: Bench, which: usize, text: &[u8]) -> Bench {
 fn set_table(at: usize, text: &[u8], table: &mut [u8]) {
     let b = image::byte(text, 0);
     show(b"table", at);
-    listing::field(b as u64);
-    listing::put(b"\n");
+    replay::field(b as u64);
+    replay::put(b"\n");
     put_at(table, at, b as u8);
 }
 
@@ -492,10 +492,10 @@ fn renumbered(mut r: Regs, which: usize, value: usize) -> Regs {
 
 // A number of the controller is changed.
 fn set_number(bench: Bench, which: usize, text: &[u8]) -> Bench {
-    let value = listing::number(text, 0);
+    let value = replay::number(text, 0);
     show(b"number", which);
-    listing::field(value as u64);
-    listing::put(b"\n");
+    replay::field(value as u64);
+    replay::put(b"\n");
     let f = bench.floppy;
     let held = f.held;
     let regs = renumbered(f.regs, which, value);
@@ -617,16 +617,16 @@ fn play(
 
 // A disk, whole or where that is long its totals and two check numbers: of its rows, and of all data.
 fn show_disk(table: &[u8], bytes: &[u8]) {
-    let held = listing::measure(table);
+    let held = replay::measure(table);
     if held.tracks <= MOST_PRINTED && held.sectors <= MOST_PRINTED {
-        return listing::show_tracks(table, bytes);
+        return replay::show_tracks(table, bytes);
     }
-    listing::show_totals(held.tracks, held.sectors, held.bytes);
+    replay::show_totals(held.tracks, held.sectors, held.bytes);
     let rows = 1 + 6 * (held.tracks % 65536) + 8 * (held.sectors % 65536);
-    listing::put(b"check");
-    listing::field(listing::check_of(buffer::part(table, 0, rows)));
-    listing::field(listing::check_of(buffer::part(bytes, 0, held.bytes)));
-    listing::put(b"\n");
+    replay::put(b"check");
+    replay::field(replay::check_of(buffer::part(table, 0, rows)));
+    replay::field(replay::check_of(buffer::part(bytes, 0, held.bytes)));
+    replay::put(b"\n");
 }
 
 fn broken() -> bool {
@@ -638,11 +638,11 @@ fn broken() -> bool {
 fn take_block(block: &mut [u8]) -> Block {
     let mut small = [0u8; 4];
     let four: &mut [u8] = &mut small;
-    if !listing::take(four, 4) {
+    if !replay::take(four, 4) {
         return Block::Broken;
     }
-    let len = listing::number(four, 0);
-    if !listing::take(block, len) {
+    let len = replay::number(four, 0);
+    if !replay::take(block, len) {
         return Block::Broken;
     }
     Block::Whole(len)
@@ -660,7 +660,7 @@ fn load(image: &[u8], table: &mut [u8], bytes: &mut [u8]) -> Done {
 fn start(image: &[u8], table: &mut [u8], bytes: &mut [u8]) -> bool {
     match load(image, table, bytes) {
         Done::Refused(why) => {
-            listing::refused(why);
+            replay::refused(why);
             false
         }
         Done::Good => true,
@@ -678,9 +678,9 @@ fn finish(
 ) {
     ask(bench);
     boxes(bench, transfer);
-    listing::put(b"disk a\n");
+    replay::put(b"disk a\n");
     show_disk(table_a, bytes_a);
-    listing::put(b"disk b\n");
+    replay::put(b"disk b\n");
     show_disk(table_b, bytes_b);
 }
 
@@ -733,13 +733,13 @@ fn replay(
     transfer: &mut [u8; 131072],
     out: &mut [u8; 65536],
 ) -> bool {
-    match listing::take_record(name, block) {
-        listing::Record::End => false,
-        listing::Record::Broken => broken(),
-        listing::Record::Whole { letters, len } => {
-            listing::put(b"session ");
-            listing::put(buffer::part(name, 0, letters));
-            listing::put(b"\n");
+    match replay::take_record(name, block) {
+        replay::Record::End => false,
+        replay::Record::Broken => broken(),
+        replay::Record::Whole { letters, len } => {
+            replay::put(b"session ");
+            replay::put(buffer::part(name, 0, letters));
+            replay::put(b"\n");
             if !start(buffer::part(block, 0, len), table_a, bytes_a) {
                 return false;
             }

@@ -13,26 +13,26 @@ const ROWS_END: usize = 17609;
 
 fn show_geometry(table: &[u8], bytes: &[u8]) {
     match store::geometry(table, bytes) {
-        store::Geometry::Refused(why) => listing::refused(why),
+        store::Geometry::Refused(why) => replay::refused(why),
         store::Geometry::Of(c0, c1) => {
-            listing::put(b"geometry");
-            listing::field(c0 as u64);
-            listing::field(c1 as u64);
-            listing::put(b"\n");
+            replay::put(b"geometry");
+            replay::field(c0 as u64);
+            replay::field(c1 as u64);
+            replay::put(b"\n");
         }
     }
 }
 
 // What is found at an address.
 fn ask(table: &[u8], bytes: &[u8], side: u8, cylinder: u8, id: SectorId) {
-    listing::put(b"at");
-    listing::field(side as u64);
-    listing::field(cylinder as u64);
-    listing::show_id(id);
+    replay::put(b"at");
+    replay::field(side as u64);
+    replay::field(cylinder as u64);
+    replay::show_id(id);
     match store::has_sector(table, bytes, side, cylinder, id) {
-        store::Has::Refused(why) => listing::refused(why),
-        store::Has::No => listing::put(b" none\n"),
-        store::Has::Yes => listing::show_content(store::lookup(table, bytes, side, cylinder, id)),
+        store::Has::Refused(why) => replay::refused(why),
+        store::Has::No => replay::put(b" none\n"),
+        store::Has::Yes => replay::show_content(store::lookup(table, bytes, side, cylinder, id)),
     }
 }
 
@@ -102,7 +102,7 @@ fn ask_elsewhere(table: &[u8], bytes: &[u8]) {
 }
 
 fn show_store(table: &[u8], bytes: &[u8]) {
-    listing::show_tracks(table, bytes);
+    replay::show_tracks(table, bytes);
     show_geometry(table, bytes);
     ask_tracks(table, bytes);
     ask_elsewhere(table, bytes);
@@ -111,11 +111,11 @@ fn show_store(table: &[u8], bytes: &[u8]) {
 // Reads an image through and loads it.
 fn show(image: &[u8], table: &mut [u8], bytes: &mut [u8]) {
     match image::survey(image) {
-        image::Surveyed::Refused(why) => listing::refused(why),
+        image::Surveyed::Refused(why) => replay::refused(why),
         image::Surveyed::Good(totals) => {
-            listing::show_totals(totals.tracks, totals.sectors, totals.bytes);
+            replay::show_totals(totals.tracks, totals.sectors, totals.bytes);
             match store::new(image, table, bytes) {
-                store::Done::Refused(why) => listing::refused(why),
+                store::Done::Refused(why) => replay::refused(why),
                 store::Done::Good => show_store(table, bytes),
             }
         }
@@ -123,9 +123,9 @@ fn show(image: &[u8], table: &mut [u8], bytes: &mut [u8]) {
 }
 
 fn show_fresh(table: &mut [u8], bytes: &mut [u8]) {
-    listing::put(b"fresh\n");
+    replay::put(b"fresh\n");
     match store::new_formatted(table, bytes) {
-        store::Done::Refused(why) => listing::refused(why),
+        store::Done::Refused(why) => replay::refused(why),
         store::Done::Good => show_store(table, bytes),
     }
 }
@@ -137,13 +137,13 @@ fn broken() -> bool {
 
 // Reads one record and shows its image; no where the list ends.
 fn replay(name: &mut [u8], image: &mut [u8], table: &mut [u8], bytes: &mut [u8]) -> bool {
-    match listing::take_record(name, image) {
-        listing::Record::End => false,
-        listing::Record::Broken => broken(),
-        listing::Record::Whole { letters, len } => {
-            listing::put(b"image ");
-            listing::put(buffer::part(name, 0, letters));
-            listing::put(b"\n");
+    match replay::take_record(name, image) {
+        replay::Record::End => false,
+        replay::Record::Broken => broken(),
+        replay::Record::Whole { letters, len } => {
+            replay::put(b"image ");
+            replay::put(buffer::part(name, 0, letters));
+            replay::put(b"\n");
             show(buffer::part(image, 0, len), table, bytes);
             true
         }

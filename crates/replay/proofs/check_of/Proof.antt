@@ -2,8 +2,8 @@ use Prim.Native.Nat.{_-_, _<_}
 use native.Mathlib.Omega.{arith}
 use lib.ListN.{length}
 use borrow.Author.Needs.{needs}
-use Rattle.listing.proofs.check_of.Statement.{statement}
-use Rattle.listing.proofs.check_of.Tie as tie
+use Rattle.replay.proofs.check_of.Statement.{statement}
+use Rattle.replay.proofs.check_of.Tie as tie
 
 abbrev Inv-loop : tie.InvT-loop
 Inv-loop bytes h₀ i₀ h i = h < 4294967291

@@ -1,8 +1,8 @@
 use mathlib.Core.Path.{sym}
 use lib.Seq.{length-take-le}
 use borrow.Author.Needs.{needs}
-use Rattle.listing.proofs.take.Statement.{statement}
-use Rattle.listing.proofs.take.Tie as tie
+use Rattle.replay.proofs.take.Statement.{statement}
+use Rattle.replay.proofs.take.Tie as tie
 
 returns : tie.Need-returns
 returns c = search needs

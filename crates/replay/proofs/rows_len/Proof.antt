@@ -1,7 +1,7 @@
 use Prim.Native.Nat.{_+_, _-_, _*_, _≤_}
 use borrow.Author.Needs.{needs}
-use Rattle.listing.proofs.rows_len.Statement.{statement}
-use Rattle.listing.proofs.rows_len.Tie as tie
+use Rattle.replay.proofs.rows_len.Statement.{statement}
+use Rattle.replay.proofs.rows_len.Tie as tie
 
 abbrev Inv-loop : tie.InvT-loop
 Inv-loop table start count first total₀ k₀ total k = (k ≤ count) × (total ≤ first + 65535 * k)

@@ -1,7 +1,7 @@
 use Prim.Native.Nat.{_+_, _*_, _≤_, _<_}
 use borrow.Author.Needs.{needs}
-use Rattle.listing.proofs.show_tracks.Statement.{statement}
-use Rattle.listing.proofs.show_tracks.Tie as tie
+use Rattle.replay.proofs.show_tracks.Statement.{statement}
+use Rattle.replay.proofs.show_tracks.Tie as tie
 
 abbrev Inv-loop : tie.InvT-loop
 Inv-loop table bytes left₀ at₀ place₀ left at place = (left < 256) × (place + 16711425 * left ≤ 4261413375)

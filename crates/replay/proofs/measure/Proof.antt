@@ -1,7 +1,7 @@
 use Prim.Native.Nat.{_+_, _*_, _≤_, _<_}
 use borrow.Author.Needs.{needs}
-use Rattle.listing.proofs.measure.Statement.{statement}
-use Rattle.listing.proofs.measure.Tie as tie
+use Rattle.replay.proofs.measure.Statement.{statement}
+use Rattle.replay.proofs.measure.Tie as tie
 
 abbrev Inv-loop : tie.InvT-loop
 Inv-loop table tracks left₀ at₀ sectors₀ bytes₀ left at sectors bytes = (left < 256) × ((sectors + 255 * left ≤ 65025) × (bytes + 16711425 * left ≤ 4261413375))

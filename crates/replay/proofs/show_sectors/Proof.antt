@@ -1,7 +1,7 @@
 use Prim.Native.Nat.{_+_, _-_, _*_, _≤_}
 use borrow.Author.Needs.{needs}
-use Rattle.listing.proofs.show_sectors.Statement.{statement}
-use Rattle.listing.proofs.show_sectors.Tie as tie
+use Rattle.replay.proofs.show_sectors.Statement.{statement}
+use Rattle.replay.proofs.show_sectors.Tie as tie
 
 abbrev Inv-loop : tie.InvT-loop
 Inv-loop table bytes start count first place₀ k₀ place k = (k ≤ count) × (place ≤ first + 65535 * k)

@@ -1,0 +1,131 @@
+-- What the listing program prints (01, "Listing program"), over the disk that an image holds by `Rattle.image.specs.Dsk`. A text is a list of bytes.
+use Prim.Native.Nat.{ℕ, zero, suc, _+_, _/_, _%_}
+use mathlib.Core.Bool.{cond}
+use mathlib.Core.List.{List, [], _∷_, _++_}
+use lib.ListN.{length}
+use lib.Dec.{eqb, ltb, leb}
+use Rattle.image.specs.Refusals.{Result, refused, good, need, after, numberOf}
+use Rattle.image.specs.Model.{sizeOf, Sector, Track, Disk, sectorCount, byteCount}
+use Rattle.image.specs.Dsk.{Dsk, dskOf}
+use Rattle.image.specs.declared.walk.Kind.{Kind}
+use Rattle.image.specs.declared.walk.Kind.the-variants.{Normal, Extended}
+use Rattle.image.specs.declared.refusal.Refusal.the-variants.{LongInput, TooManyTracks, TooManySectors}
+
+-- ---- Words
+
+-- `disk `, ` tracks `, ` sectors `, ` bytes `
+abbrev pub diskWord : List ℕ
+diskWord = 0x64 ∷ 0x69 ∷ 0x73 ∷ 0x6B ∷ 0x20 ∷ []
+
+abbrev pub tracksWord : List ℕ
+tracksWord = 0x20 ∷ 0x74 ∷ 0x72 ∷ 0x61 ∷ 0x63 ∷ 0x6B ∷ 0x73 ∷ 0x20 ∷ []
+
+abbrev pub sectorsWord : List ℕ
+sectorsWord = 0x20 ∷ 0x73 ∷ 0x65 ∷ 0x63 ∷ 0x74 ∷ 0x6F ∷ 0x72 ∷ 0x73 ∷ 0x20 ∷ []
+
+abbrev pub bytesWord : List ℕ
+bytesWord = 0x20 ∷ 0x62 ∷ 0x79 ∷ 0x74 ∷ 0x65 ∷ 0x73 ∷ 0x20 ∷ []
+
+-- `track `, ` gap `, ` filler `
+abbrev pub trackWord : List ℕ
+trackWord = 0x74 ∷ 0x72 ∷ 0x61 ∷ 0x63 ∷ 0x6B ∷ 0x20 ∷ []
+
+abbrev pub gapWord : List ℕ
+gapWord = 0x20 ∷ 0x67 ∷ 0x61 ∷ 0x70 ∷ 0x20 ∷ []
+
+abbrev pub fillerWord : List ℕ
+fillerWord = 0x20 ∷ 0x66 ∷ 0x69 ∷ 0x6C ∷ 0x6C ∷ 0x65 ∷ 0x72 ∷ 0x20 ∷ []
+
+-- `sector `, a space, the end of a line, `refused `
+abbrev pub sectorWord : List ℕ
+sectorWord = 0x73 ∷ 0x65 ∷ 0x63 ∷ 0x74 ∷ 0x6F ∷ 0x72 ∷ 0x20 ∷ []
+
+abbrev pub space : List ℕ
+space = 0x20 ∷ []
+
+abbrev pub end : List ℕ
+end = 0x0A ∷ []
+
+abbrev pub refusedWord : List ℕ
+refusedWord = 0x72 ∷ 0x65 ∷ 0x66 ∷ 0x75 ∷ 0x73 ∷ 0x65 ∷ 0x64 ∷ 0x20 ∷ []
+
+-- `normal` or `extended`
+abbrev pub kindWord : Kind → List ℕ
+kindWord Normal = 0x6E ∷ 0x6F ∷ 0x72 ∷ 0x6D ∷ 0x61 ∷ 0x6C ∷ []
+kindWord Extended = 0x65 ∷ 0x78 ∷ 0x74 ∷ 0x65 ∷ 0x6E ∷ 0x64 ∷ 0x65 ∷ 0x64 ∷ []
+
+-- ---- Decimal fields
+
+-- the digits of a number of up to so many, before what follows them
+unfoldable pub digitsFor : ℕ → ℕ → List ℕ → List ℕ
+digitsFor zero n rest = rest
+digitsFor (suc most) n rest = cond (ltb n 10) ((48 + n) ∷ rest) (digitsFor most (n / 10) ((48 + n % 10) ∷ rest))
+
+-- a number in decimal; no number of a listing has more than 20 digits
+abbrev pub decimal : ℕ → List ℕ
+decimal n = digitsFor 20 n []
+
+-- ---- Lines
+
+-- stored length over size by n where that leaves no remainder, else 0
+unfoldable pub copies : ℕ → ℕ → ℕ
+copies stored n = cond (eqb (stored % sizeOf n) 0) (stored / sizeOf n) 0
+
+-- each sector: c, h, r, n, st1, st2, stored length, copies
+unfoldable pub sectorLine : Sector → List ℕ
+sectorLine s =
+    sectorWord ++ (decimal (s .id .c)
+    ++ (space ++ (decimal (s .id .h)
+    ++ (space ++ (decimal (s .id .r)
+    ++ (space ++ (decimal (s .id .n)
+    ++ (space ++ (decimal (s .st1 .bits)
+    ++ (space ++ (decimal (s .st2 .bits)
+    ++ (space ++ (decimal (length (s .content))
+    ++ (space ++ (decimal (copies (length (s .content)) (s .id .n)) ++ end)))))))))))))))
+
+-- each track: cylinder, side, sectors, gap, filler
+unfoldable pub trackLine : Track → List ℕ
+trackLine t =
+    trackWord ++ (decimal (t .cylinder)
+    ++ (space ++ (decimal (t .side)
+    ++ (sectorsWord ++ (decimal (length (t .sectors))
+    ++ (gapWord ++ (decimal (t .gap)
+    ++ (fillerWord ++ (decimal (t .filler) ++ end)))))))))
+
+-- first line: kind, tracks loaded, sectors, sum of stored lengths
+unfoldable pub diskLine : Dsk → List ℕ
+diskLine d =
+    diskWord ++ (kindWord (d .kind)
+    ++ (tracksWord ++ (decimal (length (d .disk))
+    ++ (sectorsWord ++ (decimal (sectorCount (d .disk))
+    ++ (bytesWord ++ (decimal (byteCount (d .disk)) ++ end)))))))
+
+-- the sectors, each on a line; the tracks, each with its sectors under it
+unfoldable pub sectorLines : List Sector → List ℕ
+sectorLines [] = []
+sectorLines (s ∷ ss) = sectorLine s ++ sectorLines ss
+
+unfoldable pub trackLines : Disk → List ℕ
+trackLines [] = []
+trackLines (t ∷ ts) = trackLine t ++ (sectorLines (t .sectors) ++ trackLines ts)
+
+-- ---- The whole
+
+abbrev pub listingText : Dsk → List ℕ
+listingText d = diskLine d ++ trackLines (d .disk)
+
+-- 10 is judged first, then the image, then 6 and 7; with no store 8 never comes
+unfoldable pub listingOf : List ℕ → Result (List ℕ)
+listingOf b =
+    need (leb (length b) 65536) LongInput
+    (after (dskOf b) (λ d.
+    need (leb (length (d .disk)) 204) TooManyTracks (need (leb (sectorCount (d .disk)) 2048) TooManySectors (good (listingText d)))))
+
+-- a refusal prints `refused N` alone
+abbrev pub printedAs : Result (List ℕ) → List ℕ
+printedAs (refused why) = refusedWord ++ (decimal (numberOf why) ++ end)
+printedAs (good text) = text
+
+-- what the program prints for an input
+unfoldable pub printed : List ℕ → List ℕ
+printed b = printedAs (listingOf b)
