@@ -2,7 +2,7 @@
 use mathlib.Core.Path.{_≡_, refl, sym, ap, _∙_}
 use Prim.Native.Nat.{ℕ, zero, suc, _+_, _/_, _%_, _*_, _<_, _≤_, _^_}
 use native.Mathlib.Omega.{arith}
-use mathlib.Core.Bool.{Bool, true, false}
+use mathlib.Core.Bool.{Bool, true, false, _&&_}
 use mathlib.Core.List.{List, [], _∷_, _++_}
 use lib.ListN.{length, drop, drop-of-length-le}
 use lib.Seq.{drop-cons}
@@ -94,20 +94,6 @@ front-is (suc n) k x h =
     let q : k + suc n ≡ suc k + n = omega arith in
     rw (e, q) (ap (λ (z : List ℕ). byteAt x k ∷ z) (front-is n (suc k) x (omega (arith, h)))) ∙ sym (drop-cons x k 0 (omega (arith, h)))
 
--- the digits of a number in bytes
-module _ (a b c d m : ℕ) (ha : a < 256) (hb : b < 256) (hc : c < 256) (hd : d < 256) where
-  digit0 : (a + 256 * m) % 256 ≡ a
-  digit0 = omega (arith, ha)
-
-  digit1 : (a + 256 * (b + 256 * m)) / 256 % 256 ≡ b
-  digit1 = omega (arith, ha, hb)
-
-  digit2 : (a + 256 * (b + 256 * (c + 256 * m))) / 256 / 256 % 256 ≡ c
-  digit2 = omega (arith, ha, hb, hc)
-
-  digit3 : (a + 256 * (b + 256 * (c + 256 * (d + 256 * m)))) / 256 / 256 / 256 % 256 ≡ d
-  digit3 = omega (arith, ha, hb, hc, hd)
-
 -- what the flags and the seek state of formed bytes are
 record Flags (l : List ℕ) : Type 0 where
   pub motor : byteAt l 28 ≤ 1
@@ -118,39 +104,54 @@ record Flags (l : List ℕ) : Type 0 where
 flags : (l : List ℕ) → formed l ≡ true → Flags l
 unfolding formed
 flags l e =
-    let p = and-snd _ _ e in
-    let q = and-snd _ _ p in
-    let r = and-snd _ _ q in
+    let tail : Bool = leb (byteAt l 40) 2 && leb (byteAt l 41) 1 in
+    let p : (leb (byteAt l 28) 1 && (leb (byteAt l 31) 1 && tail)) ≡ true =
+    and-snd (eqb (length l) controllerLength) (leb (byteAt l 28) 1 && (leb (byteAt l 31) 1 && tail)) e in
+    let q : (leb (byteAt l 31) 1 && tail) ≡ true = and-snd (leb (byteAt l 28) 1) (leb (byteAt l 31) 1 && tail) p in
+    let r : tail ≡ true = and-snd (leb (byteAt l 31) 1) tail q in
     record {
-      motor = leb-true _ _ (and-fst _ _ p);
-      on = leb-true _ _ (and-fst _ _ q);
-      seek = leb-true _ _ (and-fst _ _ r);
-      disk = leb-true _ _ (and-snd _ _ r);
+      motor = leb-true _ _ (and-fst (leb (byteAt l 28) 1) (leb (byteAt l 31) 1 && tail) p);
+      on = leb-true _ _ (and-fst (leb (byteAt l 31) 1) tail q);
+      seek = leb-true _ _ (and-fst (leb (byteAt l 40) 2) (leb (byteAt l 41) 1) r);
+      disk = leb-true _ _ (and-snd (leb (byteAt l 40) 2) (leb (byteAt l 41) 1) r);
     }
 
 -- bytes that a controller has are those of the registers that are read from them
 module _ (l : List ℕ) (b : (k : ℕ) → byteAt l k < 256) where
-  first : (k m : ℕ) → (byteAt l k + 256 * m) % 256 ≡ byteAt l k
-  first k m = digit0 (byteAt l k) 0 0 0 m (b k) (omega arith) (omega arith) (omega arith)
+  -- the digits of a number of two bytes, and of four
+  two0 : (k : ℕ) → numberAt 2 l k % 256 ≡ byteAt l k
+  unfolding numberAt
+  two0 k = omega (arith, b k)
 
-  second : (k n m : ℕ) → (byteAt l k + 256 * (byteAt l n + 256 * m)) / 256 % 256 ≡ byteAt l n
-  second k n m = digit1 (byteAt l k) (byteAt l n) 0 0 m (b k) (b n) (omega arith) (omega arith)
+  two1 : (k : ℕ) → numberAt 2 l k / 256 % 256 ≡ byteAt l (k + 1)
+  unfolding numberAt
+  two1 k = omega (arith, b k, b (k + 1))
 
-  third : (k n p m : ℕ) → (byteAt l k + 256 * (byteAt l n + 256 * (byteAt l p + 256 * m))) / 256 / 256 % 256 ≡ byteAt l p
-  third k n p m = digit2 (byteAt l k) (byteAt l n) (byteAt l p) 0 m (b k) (b n) (b p) (omega arith)
+  four0 : (k : ℕ) → numberAt 4 l k % 256 ≡ byteAt l k
+  unfolding numberAt
+  four0 k = omega (arith, b k)
 
-  fourth : (k n p q m : ℕ) → (byteAt l k + 256 * (byteAt l n + 256 * (byteAt l p + 256 * (byteAt l q + 256 * m)))) / 256 / 256 / 256 % 256 ≡ byteAt l q
-  fourth k n p q m = digit3 (byteAt l k) (byteAt l n) (byteAt l p) (byteAt l q) m (b k) (b n) (b p) (b q)
+  four1 : (k : ℕ) → numberAt 4 l k / 256 % 256 ≡ byteAt l (k + 1)
+  unfolding numberAt
+  four1 k = omega (arith, b k, b (k + 1))
+
+  four2 : (k : ℕ) → numberAt 4 l k / 256 / 256 % 256 ≡ byteAt l (k + 1 + 1)
+  unfolding numberAt
+  four2 k = omega (arith, b k, b (k + 1), b (k + 1 + 1))
+
+  four3 : (k : ℕ) → numberAt 4 l k / 256 / 256 / 256 % 256 ≡ byteAt l (k + 1 + 1 + 1)
+  unfolding numberAt
+  four3 k = omega (arith, b k, b (k + 1), b (k + 1 + 1), b (k + 1 + 1 + 1))
 
   pub written-back : formed l ≡ true → numbersFor (regsAt l) (heldAt l) ≡ l
-  unfolding regsAt numbersFor numberAt
+  unfolding regsAt numbersFor
   written-back e =
       let f = flags l e in
       (λ i.
       bytesFor 9 l 0 (byteAt l 9 ∷ bytesFor 7 l 10 (byteAt l 17 ∷ byteAt l 18
-      ∷ first 19 _ i ∷ second 19 20 _ i ∷ third 19 20 21 _ i ∷ fourth 19 20 21 22 _ i
-      ∷ first 23 _ i ∷ second 23 24 _ i ∷ third 23 24 25 _ i ∷ fourth 23 24 25 26 _ i
-      ∷ byteAt l 27 ∷ flag-kept (byteAt l 28) (f .motor) i ∷ first 29 _ i ∷ second 29 30 _ i
-      ∷ flag-kept (byteAt l 31) (f .on) i ∷ byteAt l 32 ∷ byteAt l 33 ∷ byteAt l 34 ∷ byteAt l 35 ∷ byteAt l 36 ∷ first 37 _ i ∷ second 37 38 _ i
+      ∷ four0 19 i ∷ four1 19 i ∷ four2 19 i ∷ four3 19 i
+      ∷ four0 23 i ∷ four1 23 i ∷ four2 23 i ∷ four3 23 i
+      ∷ byteAt l 27 ∷ flag-kept (byteAt l 28) (f .motor) i ∷ two0 29 i ∷ two1 29 i
+      ∷ flag-kept (byteAt l 31) (f .on) i ∷ byteAt l 32 ∷ byteAt l 33 ∷ byteAt l 34 ∷ byteAt l 35 ∷ byteAt l 36 ∷ two0 37 i ∷ two1 37 i
       ∷ byteAt l 39 ∷ seek-kept (byteAt l 40) (f .seek) i ∷ flag-kept (byteAt l 41) (f .disk) i ∷ heldAt l)))
       ∙ front-is 42 0 l (omega (arith, formed-long l e))
