@@ -5,10 +5,10 @@ use std::ptr;
 
 use raze::disk::{Disk, Track};
 
-const MOST_TRACKS: usize = 204;
-const MOST_SECTORS: usize = 2_048;
-const MOST_BYTES: usize = 1_048_576;
-const MOST_TRANSFER: usize = 65_536;
+pub const MOST_TRACKS: usize = 204;
+pub const MOST_SECTORS: usize = 2_048;
+pub const MOST_BYTES: usize = 1_048_576;
+pub const MOST_TRANSFER: usize = 65_536;
 
 /// How much a disk holds.
 pub struct Totals {
