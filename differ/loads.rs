@@ -16,7 +16,7 @@ const FRESH: usize = 40 * 9 * 512;
 pub fn run(seed: u64, kind: u8, watch: &mut Watch) -> Checked {
     let mut chance = Chance::new(seed);
     match kind {
-        0 => {
+        0 if chance.once_in(3) => {
             let images = made::cuts(&mut chance);
             let mut images = images.iter();
             images.try_for_each(|image| load(image, &mut chance, watch))

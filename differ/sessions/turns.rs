@@ -33,6 +33,22 @@ pub fn traffic(pair: &mut Pair, chance: &mut Chance) -> Checked {
     }
 }
 
+/// A turn of a program that formats tracks, most of which are not there.
+pub fn formats(pair: &mut Pair, chance: &mut Chance) -> Checked {
+    if chance.once_in(2) {
+        return traffic(pair, chance);
+    }
+    if pair.rust().disk().is_none() {
+        pair.put(Some(0), 1)?;
+    }
+    let any = chance.byte();
+    let cylinder = chance.of(&[0, 7, 8, 9, 199, 203, 204, 205, any]);
+    let (n, count) = (chance.small(4), chance.of(&[0, 0, 1, 2, 5, 255]));
+    let head = chance.small(2) * 4;
+    let bytes = [0x0f, 0, cylinder, 0x4d, head, n, count, 0x2a, 0xe5];
+    commands::send_all(pair, &bytes, chance).map(|_| ())
+}
+
 /// A turn of a program that sends any bytes.
 pub fn noise(pair: &mut Pair, chance: &mut Chance) -> Checked {
     match chance.below(20) {
