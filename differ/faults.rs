@@ -29,7 +29,6 @@ pub fn broken_table(table: &[u8], data: usize, chance: &mut Chance) -> Vec<u8> {
 /// one impossible number.
 pub fn impossible(controller: &[u8], chance: &mut Chance) -> Vec<u8> {
     let mut bytes = controller.to_vec();
-    let over = |chance: &mut Chance, least: u8| least + chance.small(255 - least);
     match chance.below(12) {
         0 => bytes.truncate(chance.of(&[0, 1, 42, CONTROLLER - 1])),
         1 => bytes.push(0),
@@ -62,6 +61,15 @@ pub fn impossible(controller: &[u8], chance: &mut Chance) -> Vec<u8> {
         }
     }
     bytes
+}
+
+/// A number that is too large, mostly just so.
+fn over(chance: &mut Chance, least: u8) -> u8 {
+    match chance.below(4) {
+        0 => 255,
+        1 => least + chance.small(255 - least),
+        _ => least,
+    }
 }
 
 /// How many bytes the command of this first byte has, for the few used above.

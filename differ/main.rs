@@ -13,6 +13,7 @@ mod errors;
 #[path = "../oracle/noise.rs"]
 mod noise;
 
+mod bench;
 mod buffer;
 mod cases;
 mod chance;
@@ -38,6 +39,10 @@ fn main() -> ExitCode {
     let words: Vec<&str> = words.iter().map(String::as_str).collect();
     let done = match words.as_slice() {
         ["run", options @ ..] => cases::Plan::read(options).map(|plan| plan.run()),
+        ["bench"] => {
+            bench::run();
+            Some(true)
+        }
         ["replay", seed] => cases::number(seed).map(cases::replay),
         _ => None,
     };

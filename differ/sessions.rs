@@ -63,10 +63,10 @@ fn play(pair: &mut Pair, kind: u8, chance: &mut Chance) -> Checked {
     Ok(())
 }
 
-/// So many Read IDs that the index is soon to wrap.
+/// So many Read IDs that the index wraps.
 fn begin_with_ids(pair: &mut Pair, chance: &mut Chance) -> Checked {
     pair.put(Some(0), 1)?;
-    for _ in 0..65_500 {
+    for _ in 0..65_540 {
         commands::send_all(pair, &[0x4a, 0], chance)?;
     }
     Ok(())
