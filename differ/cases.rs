@@ -2,7 +2,7 @@
 //! byte tells the kind, below 128 loads, else sessions.
 
 use crate::chance::Chance;
-use crate::watch::{Checked, Watch};
+use crate::watch::{Checked, Watch, tell};
 use crate::{host, loads, sessions};
 
 /// How many kinds there are of loads, and of sessions.
@@ -50,7 +50,9 @@ impl Plan {
             images,
             calls,
         } = self;
-        println!("seed {seed}, at least {images} images and {calls} calls in sessions");
+        tell(format_args!(
+            "seed {seed}, at least {images} images and {calls} calls in sessions"
+        ));
         let mut watch = Watch::default();
         if !lengths_are_right() {
             return false;
@@ -114,12 +116,24 @@ pub fn replay(seed: u64) -> bool {
     good
 }
 
+/// Tells the counts, and how it ended.
+pub fn tell_end(good: bool, watch: &Watch) {
+    tell(watch);
+    tell(if good {
+        "no difference"
+    } else {
+        "a difference"
+    });
+}
+
 /// Runs one case, and tells of a difference.
 fn run_case(seed: u64, watch: &mut Watch) -> bool {
     match checked(seed, watch) {
         Ok(()) => true,
         Err(difference) => {
-            println!("case      {seed:#x} (differ replay {seed:#x})\n{difference}");
+            tell(format_args!(
+                "case      {seed:#x} (differ replay {seed:#x})\n{difference}"
+            ));
             false
         }
     }
@@ -139,7 +153,9 @@ fn lengths_are_right() -> bool {
     let written = (host::CONTROLLER as u64, host::TABLE as u64);
     let told = host::lengths();
     if told != written {
-        println!("lengths of controller and table: expected {written:?}, library {told:?}");
+        tell(format_args!(
+            "lengths of controller and table: expected {written:?}, library {told:?}"
+        ));
     }
     told == written
 }

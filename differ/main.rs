@@ -7,11 +7,20 @@ mod capacities;
 #[allow(dead_code)]
 #[path = "../oracle/dsk.rs"]
 mod dsk;
+#[allow(dead_code)]
+#[path = "../oracle/dump.rs"]
+mod dump;
 #[path = "../oracle/errors.rs"]
 mod errors;
 #[allow(dead_code)]
 #[path = "../oracle/noise.rs"]
 mod noise;
+#[allow(dead_code)]
+#[path = "../oracle/session.rs"]
+mod session;
+#[allow(dead_code)]
+#[path = "../oracle/stream.rs"]
+mod stream;
 
 mod bench;
 mod buffer;
@@ -19,6 +28,7 @@ mod cases;
 mod chance;
 mod faults;
 mod host;
+mod kept;
 mod layout;
 mod loads;
 mod lookups;
@@ -32,7 +42,8 @@ mod watch;
 
 use std::process::ExitCode;
 
-const USAGE: &str = "usage: differ run [--seed S] [--images N] [--calls N] | replay SEED | bench";
+const USAGE: &str =
+    "usage: differ run [--seed S] [--images N] [--calls N] | replay SEED | kept FOLDER | bench";
 
 fn main() -> ExitCode {
     let words: Vec<String> = std::env::args().skip(1).collect();
@@ -43,6 +54,7 @@ fn main() -> ExitCode {
             bench::run();
             Some(true)
         }
+        ["kept", folder] => kept::run(folder),
         ["replay", seed] => cases::number(seed).map(cases::replay),
         _ => None,
     };

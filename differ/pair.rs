@@ -68,6 +68,11 @@ impl Pair<'_> {
         &self.rust
     }
 
+    /// Tells what happens beside the calls, where each call is told.
+    pub fn say(&self, words: impl fmt::Display) {
+        self.watch.say(words);
+    }
+
     /// How many disks there are.
     pub fn disks(&self) -> usize {
         self.disks.len()
@@ -156,6 +161,10 @@ impl Pair<'_> {
         let before = (refusal != 0).then(|| self.controller.clone());
         let answer = self.call_write(b, table)?;
         self.watch.call("byte sent");
+        if let Some(table) = table {
+            let length = table.len();
+            self.say(format_args!("a broken table of {length} bytes is lent to"));
+        }
         if let Some(before) = before {
             self.refused(format_args!("send {b:02x}"), refusal, answer, &before)?;
             return Ok(refusal);
@@ -163,6 +172,9 @@ impl Pair<'_> {
         let served = look.as_ref().is_some_and(|look| look.serves(&self.rust));
         self.rust.write_cmd(b);
         self.same(format_args!("send {b:02x}"), 0, answer)?;
+        if let Some(look) = &look {
+            self.say(look.name());
+        }
         match look {
             Some(Look::Format(_) | Look::Save { .. }) => self.compare_disk()?,
             Some(Look::Read { .. }) => self.compare_data(served)?,

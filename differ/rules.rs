@@ -21,6 +21,17 @@ pub enum Look {
 }
 
 impl Look {
+    /// What it is, in words.
+    pub fn name(&self) -> &'static str {
+        match self {
+            Look::Read { .. } => "that was a Read Data",
+            Look::Begin => "that was a Write Data",
+            Look::Id => "that was a Read ID",
+            Look::Format(_) => "that was a Format",
+            Look::Save { .. } => "that was the last byte of a write",
+        }
+    }
+
     /// Whether this is a read that finds its first sector.
     pub fn serves(&self, rust: &Floppy) -> bool {
         let (Look::Read { head, id, .. }, Some(disk)) = (self, rust.disk()) else {

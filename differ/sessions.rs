@@ -38,10 +38,7 @@ pub fn run(seed: u64, kind: u8, watch: &mut Watch) -> Checked {
     let mut pair = Pair::new(disks, transfer, &mut chance, watch)?;
     let done = play(&mut pair, kind, &mut chance);
     let done = done.and_then(|()| pair.finish());
-    done.map_err(|mut difference| {
-        difference.ours += &format!("\n{}", pair.states());
-        difference
-    })
+    done.map_err(|difference| difference.with(pair.states()))
 }
 
 /// The calls of the session.

@@ -2,6 +2,7 @@
 
 use std::collections::BTreeMap;
 use std::fmt;
+use std::io::{self, Write};
 
 /// Where the two sides do not agree.
 pub struct Difference {
@@ -26,6 +27,13 @@ impl Difference {
             ours: ours.to_string(),
         }
     }
+
+    /// The same with the states of both sides.
+    pub fn with(mut self, states: String) -> Difference {
+        self.ours += "\n";
+        self.ours += &states;
+        self
+    }
 }
 
 impl fmt::Display for Difference {
@@ -34,6 +42,11 @@ impl fmt::Display for Difference {
         writeln!(f, "expected  {}", self.expected)?;
         write!(f, "library   {}", self.ours)
     }
+}
+
+/// Prints a line. A reader that has seen enough is no fault.
+pub fn tell(words: impl fmt::Display) {
+    let _ = writeln!(io::stdout(), "{words}");
 }
 
 /// How a step of a case ends.
@@ -62,7 +75,7 @@ impl Watch {
     /// Tells it, where each call is told.
     pub fn say(&self, words: impl fmt::Display) {
         if self.aloud {
-            println!("{words}");
+            tell(words);
         }
     }
 

@@ -107,6 +107,7 @@ impl Pair<'_> {
         for range in dead {
             bytes[range.clone()].copy_from_slice(&noise[range]);
         }
+        self.say("bytes of the controller that do not count are changed");
         match View(&self.controller).differs(&self.rust) {
             None => Ok(()),
             Some(name) => Err(Difference::new("bytes that do not count", "the same", name)),

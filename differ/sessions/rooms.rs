@@ -21,10 +21,10 @@ pub fn spare(chance: &mut Chance) -> usize {
 
 /// Lends another length of the data or of the transfer buffer.
 pub fn change(pair: &mut Pair, chance: &mut Chance) {
-    let buffer = if chance.once_in(2) {
-        &mut pair.store().data
+    let (name, buffer) = if chance.once_in(2) {
+        ("data", &mut pair.store().data)
     } else {
-        &mut pair.transfer
+        ("transfer", &mut pair.transfer)
     };
     let length = match chance.below(4) {
         0 => chance.below(buffer.length() + 1),
@@ -32,10 +32,12 @@ pub fn change(pair: &mut Pair, chance: &mut Chance) {
         _ => buffer.length(),
     };
     buffer.lend(length);
+    pair.say(format_args!("lend {length} bytes of {name} from now on"));
 }
 
 /// Lends both whole.
 pub fn whole(pair: &mut Pair) {
     pair.transfer.lend(usize::MAX);
     pair.store().data.lend(usize::MAX);
+    pair.say("lend data and transfer whole from now on");
 }
