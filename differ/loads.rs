@@ -7,7 +7,7 @@ use crate::chance::Chance;
 use crate::host::TABLE;
 use crate::store::{Store, rust_load};
 use crate::watch::{Checked, Watch};
-use crate::{faults, lookups, made};
+use crate::{faults, layout, lookups, made};
 
 /// How many bytes the fresh disk stores.
 const FRESH: usize = 40 * 9 * 512;
@@ -39,11 +39,25 @@ pub fn load(image: &[u8], chance: &mut Chance, watch: &mut Watch) -> Checked {
     let refusal = store.load(image, &rust, watch)?;
     watch.count("images");
     watch.refusal("image", refusal);
-    if let (0, Ok(disk)) = (refusal, rust) {
-        watch.count("images loaded");
-        compare_disk(&disk, &mut store, chance, watch)?;
+    match &rust {
+        Ok(disk) if refusal == 0 => {
+            watch.count("images loaded");
+            compare_disk(disk, &mut store, chance, watch)
+        }
+        Ok(disk) => compare_overfull(disk, chance, watch),
+        Err(_) => Ok(()),
     }
-    Ok(())
+}
+
+/// A disk beyond the capacities, laid in a store by hand: it breaks the layout.
+fn compare_overfull(disk: &Disk, chance: &mut Chance, watch: &mut Watch) -> Checked {
+    let (mut table, data) = layout::laid(disk);
+    let totals = Totals::of(disk);
+    if totals.refusal().is_none() || totals.tracks > 255 || table.len() > TABLE {
+        return Ok(());
+    }
+    table.resize(TABLE, 0);
+    lookups::compare_broken(&table, &data, chance, watch)
 }
 
 /// A fresh disk, with data rooms around what it stores.

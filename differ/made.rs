@@ -32,14 +32,20 @@ pub fn small(chance: &mut Chance) -> Vec<u8> {
     plans::small(chance).image()
 }
 
-/// A good image close to the largest number of tracks or of sectors.
+/// A good image close to the largest number of tracks, of sectors, or of both.
 pub fn nearly_full(chance: &mut Chance) -> Vec<u8> {
-    if chance.once_in(2) {
-        let number = 200 + chance.small(5);
-        return plans::headers(number, 1, chance).image();
-    }
-    let last = 4 + chance.small(5);
-    plans::rows(&[255, 255, 255, 255, 255, 255, 255, 255, last]).image()
+    let plan = match chance.below(3) {
+        0 => {
+            let number = 200 + chance.small(5);
+            plans::headers(number, 1, chance)
+        }
+        1 => {
+            let last = 4 + chance.small(5);
+            plans::rows(&[255, 255, 255, 255, 255, 255, 255, 255, last])
+        }
+        _ => plans::rows(&[10; 204]),
+    };
+    plan.image()
 }
 
 /// A good image of a usual disk: 40 tracks of nine sectors of 512 bytes.

@@ -16,7 +16,8 @@ pub fn any(chance: &mut Chance) -> Plan {
         }
         3 => many_rows(chance),
         4..=12 => long_list(chance),
-        13..=18 => one_place(chance),
+        13..=17 => one_place(chance),
+        18 if chance.once_in(4) => over_twice(chance),
         _ => small(chance),
     }
 }
@@ -158,14 +159,17 @@ pub fn headers(number: u8, sides: u8, chance: &mut Chance) -> Plan {
     Plan::normal(number, sides, step as u16).row(step, tracks)
 }
 
-/// Tracks with so many sectors each, none of which stores a byte.
+/// Tracks with so many sectors each, none of which stores a byte; more than nine
+/// tracks have few sectors.
 pub fn rows(numbers: &[u8]) -> Plan {
     let track = |(cylinder, &number): (u8, &u8)| {
         let ids = (1..=number).map(|r| [cylinder, 0, r, 0]);
         Track::new(cylinder, 0, ids.map(|id| Sector::stored(id, 0)).collect())
     };
-    let table = vec![9; numbers.len()];
-    Plan::extended(table.len() as u8, 1, &table).row(0x900, (0..).zip(numbers).map(track))
+    let blocks = if numbers.len() > 9 { 1 } else { 9 };
+    let table = vec![blocks; numbers.len()];
+    let step = usize::from(blocks) * 0x100;
+    Plan::extended(table.len() as u8, 1, &table).row(step, (0..).zip(numbers).map(track))
 }
 
 /// About 2,048 sectors, or more.
@@ -193,6 +197,15 @@ fn long_list(chance: &mut Chance) -> Plan {
 fn one_place(chance: &mut Chance) -> Plan {
     let (number, sides) = (1 + chance.small(12), 1 + chance.small(3));
     Plan::normal(number, sides, 0).track(FIRST, track(0, 1, chance, sized))
+}
+
+/// Tracks that are read at one place, about as many of them, of their sectors and
+/// of their bytes as the capacities allow.
+fn over_twice(chance: &mut Chance) -> Plan {
+    let (number, sectors) = (203 + chance.small(4), 9 + chance.small(3));
+    let n = chance.of(&[0, 0, 2, 3]);
+    let sectors = (1..=sectors).map(|r| Sector::sized([0, 0, r, n])).collect();
+    Plan::normal(number, 1, 0).track(FIRST, Track::new(0, 0, sectors))
 }
 
 /// Tracks of large sectors that are read at one place: about 1,048,576 bytes.
