@@ -20,25 +20,32 @@ const LARGE: &str = "many-sectors-16581375";
 /// How often each image is loaded, with rooms by chance.
 const LOADS: u64 = 4;
 
-/// Runs the lists that stand in the folder of the crates. Answers whether there was
-/// no difference, and nothing where a list cannot be read.
-pub fn run(folder: &str) -> Option<bool> {
+/// Runs the lists that stand in the folder of the crates; where a name is told, the
+/// one of that name alone, and tells each call. Answers whether there was no
+/// difference, and nothing where a list cannot be read.
+pub fn run(folder: &str, name: Option<&str>) -> Option<bool> {
     let read = |crate_name: &str| fs::read(format!("{folder}/{crate_name}/stdin")).ok();
     let records = stream::read(&read("vectors")?).ok()?;
     let sessions = session::read(&read("ports")?).ok()?;
-    let mut watch = Watch::default();
-    let images = records.iter().filter(|record| record.name() != LARGE);
-    let images = images.map(|record| (record.name(), run_image(record, &mut watch)));
-    let good = images.collect::<Vec<_>>().into_iter().all(tell);
-    let answered = sessions.iter().take_while(|session| !session.is_refusal());
-    let answered = answered.map(|session| (session.name(), run_session(session, &mut watch)));
-    let good = good & answered.collect::<Vec<_>>().into_iter().all(tell);
+    let mut watch = name.map_or(Watch::default(), |_| Watch::aloud());
+    let chosen = |other: &str| name.is_none_or(|name| name == other);
+    let mut good = true;
+    for record in &records {
+        if chosen(record.name()) && record.name() != LARGE {
+            good &= told(record.name(), run_image(record, &mut watch));
+        }
+    }
+    for session in sessions.iter().filter(|session| !session.is_refusal()) {
+        if chosen(session.name()) {
+            good &= told(session.name(), run_session(session, &mut watch));
+        }
+    }
     cases::tell_end(good, &watch);
     Some(good)
 }
 
-/// Tells of a difference in the one of this name, if there is one.
-fn tell((name, done): (&str, Checked)) -> bool {
+/// Tells of a difference in the one of this name, and answers whether there is none.
+fn told(name: &str, done: Checked) -> bool {
     if let Err(difference) = &done {
         watch::tell(format_args!("kept      {name}\n{difference}"));
     }

@@ -42,8 +42,9 @@ mod watch;
 
 use std::process::ExitCode;
 
-const USAGE: &str =
-    "usage: differ run [--seed S] [--images N] [--calls N] | replay SEED | kept FOLDER | bench";
+const USAGE: &str = "usage: differ run [--seed S] [--images N] [--calls N] | replay SEED
+       \
+     differ kept FOLDER [NAME] | bench";
 
 fn main() -> ExitCode {
     let words: Vec<String> = std::env::args().skip(1).collect();
@@ -54,7 +55,8 @@ fn main() -> ExitCode {
             bench::run();
             Some(true)
         }
-        ["kept", folder] => kept::run(folder),
+        ["kept", folder] => kept::run(folder, None),
+        ["kept", folder, name] => kept::run(folder, Some(name)),
         ["replay", seed] => cases::number(seed).map(cases::replay),
         _ => None,
     };
