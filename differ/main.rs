@@ -42,9 +42,11 @@ mod watch;
 
 use std::process::ExitCode;
 
-const USAGE: &str = "usage: differ run [--seed S] [--images N] [--calls N] | replay SEED
-       \
-     differ kept FOLDER [NAME] | bench";
+const USAGE: &str = "\
+usage: differ run [--seed S] [--images N] [--calls N]
+       differ replay SEED
+       differ kept FOLDER [NAME]
+       differ bench";
 
 fn main() -> ExitCode {
     let words: Vec<String> = std::env::args().skip(1).collect();
