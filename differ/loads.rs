@@ -84,7 +84,8 @@ fn compare_disk(disk: &Disk, store: &mut Store, chance: &mut Chance, watch: &mut
     }
     let total = Totals::of(disk).bytes;
     if total > 0 && chance.once_in(4) {
-        store.data.lend(chance.below(total));
+        let any = chance.below(total);
+        store.data.lend(chance.of(&[any, total - 1]));
         lookups::compare_broken(store.table.part(), store.data.part(), chance, watch)?;
     }
     Ok(())

@@ -68,6 +68,11 @@ impl Pair<'_> {
         &self.rust
     }
 
+    /// How many bytes the last Read Data laid in the transfer buffer.
+    pub fn filled(&self) -> usize {
+        self.filled
+    }
+
     /// Tells what happens beside the calls, where each call is told.
     pub fn say(&self, words: impl fmt::Display) {
         self.watch.say(words);

@@ -1,5 +1,6 @@
 //! How much of the buffers is lent.
 
+use crate::capacities::Totals;
 use crate::chance::Chance;
 use crate::pair::Pair;
 
@@ -19,20 +20,31 @@ pub fn spare(chance: &mut Chance) -> usize {
     chance.of(&[0, 1, 127, 128, 512, 1_000, 5_000, 20_000, 20_000])
 }
 
-/// Lends another length of the data or of the transfer buffer.
+/// Lends another length of the data or of the transfer buffer: any, or just what
+/// is in use, or one byte less, or all.
 pub fn change(pair: &mut Pair, chance: &mut Chance) {
-    let (name, buffer) = if chance.once_in(2) {
+    let of_data = chance.once_in(2);
+    let used = if of_data {
+        let disk = pair.rust().disk();
+        disk.map_or(0, |disk| Totals::of(disk).bytes)
+    } else {
+        pair.filled()
+    };
+    let (name, buffer) = if of_data {
         ("data", &mut pair.store().data)
     } else {
         ("transfer", &mut pair.transfer)
     };
-    let length = match chance.below(4) {
+    let length = match chance.below(6) {
         0 => chance.below(buffer.length() + 1),
-        1 => buffer.length() - chance.below(buffer.length().min(600) + 1),
+        1 => used.saturating_sub(1),
+        2 => used + chance.below(600),
+        3 => used,
         _ => buffer.length(),
     };
     buffer.lend(length);
-    pair.say(format_args!("lend {length} bytes of {name} from now on"));
+    let lent = buffer.lent();
+    pair.say(format_args!("lend {lent} bytes of {name} from now on"));
 }
 
 /// Lends both whole.
