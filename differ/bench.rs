@@ -19,7 +19,7 @@ use table::Row;
 use work::Work;
 
 /// How often each side is timed.
-const REPETITIONS: usize = 31;
+const REPETITIONS: usize = 301;
 
 /// Times everything, and prints the table.
 pub fn run() {
@@ -31,6 +31,7 @@ pub fn run() {
         over_ports("status read, idle", Work::PollIdle),
         over_ports("status read, data unread", Work::PollData),
         over_ports("data read, data unread", Work::ReadBytes),
+        over_ports("byte sent, held by a write", Work::SendHeld),
         over_ports("save a sector of 512 bytes", Work::SaveAll),
         over_ports("format a track that is there", Work::FormatPresent),
         over_ports("format a track that is not there", Work::FormatAbsent),

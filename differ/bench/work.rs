@@ -9,6 +9,9 @@ use super::ports::Port;
 const POLLS: usize = 10_000;
 const COMMANDS: usize = 5_000;
 
+/// How many bytes of a write are held before its last one.
+const HELD: usize = 511;
+
 /// A piece of work.
 #[derive(Clone, Copy)]
 pub enum Work {
@@ -17,6 +20,7 @@ pub enum Work {
     PollIdle,
     PollData,
     ReadBytes,
+    SendHeld,
     SaveAll,
     FormatPresent,
     FormatAbsent,
@@ -31,6 +35,7 @@ impl Work {
             Work::ReadPolled | Work::ReadPlain | Work::SaveAll => 360,
             Work::PollIdle | Work::PollData => POLLS,
             Work::ReadBytes => 9 * 512,
+            Work::SendHeld => HELD,
             Work::FormatPresent | Work::FormatAbsent => 40,
             Work::ReadIds | Work::SenseDrive => COMMANDS,
         }
@@ -39,8 +44,10 @@ impl Work {
     /// Does it, and answers how long the timed part took, and a sum of what was
     /// read, which is the same on both sides.
     pub fn run<P: Port>(self, port: &mut P) -> (Duration, u64) {
-        if let Work::PollData | Work::ReadBytes = self {
-            send(port, &[0x46, 0, 0, 0, 1, 2, 9, 0x2a, 0xff]);
+        match self {
+            Work::PollData | Work::ReadBytes => send(port, &[0x46, 0, 0, 0, 1, 2, 9, 0x2a, 0xff]),
+            Work::SendHeld => send(port, &[0x45, 0, 0, 0, 1, 2, 1, 0x2a, 0xff]),
+            _ => {}
         }
         let start = Instant::now();
         let seen = self.timed(port);
@@ -53,6 +60,10 @@ impl Work {
             Work::ReadPlain => each_sector(port, |port, c, r| read_sector(port, c, r, false)),
             Work::PollIdle | Work::PollData => (0..POLLS).map(|_| u64::from(port.status())).sum(),
             Work::ReadBytes => take(port, 9 * 512),
+            Work::SendHeld => {
+                send(port, &[0x5a; HELD]);
+                u64::from(port.status())
+            }
             Work::SaveAll => each_sector(port, save_sector),
             Work::FormatPresent => each_track(port, |port, _| format(port, 0)),
             Work::FormatAbsent => each_track(port, |port, _| format(port, 4)),
