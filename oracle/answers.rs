@@ -2,20 +2,20 @@
 
 mod lookups;
 
-use std::io::{self, Cursor, ErrorKind, Write};
+use std::io::{self, Cursor, Write};
 
 use raze::disk::Disk;
 
 use crate::capacities::Totals;
 use crate::stream::Record;
-use crate::{Failure, dump};
+use crate::{Failure, dump, errors};
 
 /// Loads the image of the record with the Rust and prints its answer.
 pub fn print(record: &Record, out: &mut impl Write) -> Result<(), Failure> {
     writeln!(out, "image {}", record.name())?;
     match Disk::new(Cursor::new(record.image())) {
         Ok(disk) => print_disk(&disk, out)?,
-        Err(error) => match refusal(&error) {
+        Err(error) => match errors::refusal(&error) {
             Some(number) => writeln!(out, "refused {number}")?,
             None => return Err(Failure::Finding(format!("{}: {error}", record.name()))),
         },
@@ -27,18 +27,6 @@ pub fn print(record: &Record, out: &mut impl Write) -> Result<(), Failure> {
 pub fn print_fresh(out: &mut impl Write) -> io::Result<()> {
     writeln!(out, "fresh")?;
     print_tracks(&Disk::new_formatted(), out)
-}
-
-/// The refusal number of an error that the Rust raises, if it has one.
-fn refusal(error: &anyhow::Error) -> Option<u8> {
-    if let Some(error) = error.downcast_ref::<io::Error>() {
-        return (error.kind() == ErrorKind::UnexpectedEof).then_some(3);
-    }
-    match error.to_string().as_str() {
-        "Invalid EXTENDED CPC" => Some(4),
-        "Invalid Track-Info signature" => Some(5),
-        _ => None,
-    }
 }
 
 fn print_disk(disk: &Disk, out: &mut impl Write) -> io::Result<()> {

@@ -1,13 +1,14 @@
 //! The capacities of document 01. The Rust has none.
 
 use std::fmt;
+use std::ptr;
 
 use raze::disk::{Disk, Track};
 
-const MOST_TRACKS: usize = 204;
-const MOST_SECTORS: usize = 2_048;
-const MOST_BYTES: usize = 1_048_576;
-const MOST_TRANSFER: usize = 65_536;
+pub const MOST_TRACKS: usize = 204;
+pub const MOST_SECTORS: usize = 2_048;
+pub const MOST_BYTES: usize = 1_048_576;
+pub const MOST_TRANSFER: usize = 65_536;
 
 /// How much a disk holds.
 pub struct Totals {
@@ -38,13 +39,29 @@ impl Totals {
         totals
     }
 
-    /// The refusal number of document 01 for a disk beyond its capacities.
+    /// What the disk would hold with this track, for which the first of the same
+    /// side and cylinder makes room.
+    pub fn with(disk: &Disk, track: &Track) -> Totals {
+        let old = disk.get_track(track.side(), track.cylinder());
+        let is_old = |other: &&Track| old.is_some_and(|old| ptr::eq(*other, old));
+        let kept = disk.tracks().iter().filter(|other| !is_old(other));
+        Totals::of_tracks(kept.chain([track]))
+    }
+
+    /// The refusal number of document 01 for a disk beyond its capacities, with
+    /// the largest data room.
     pub fn refusal(&self) -> Option<u8> {
+        self.refusal_in(MOST_BYTES)
+    }
+
+    /// The refusal number of document 01 for a disk beyond its capacities, with a
+    /// data buffer of this length.
+    pub fn refusal_in(&self, length: usize) -> Option<u8> {
         if self.tracks > MOST_TRACKS {
             Some(6)
         } else if self.sectors > MOST_SECTORS {
             Some(7)
-        } else if self.bytes > MOST_BYTES {
+        } else if self.bytes > MOST_BYTES.min(length) {
             Some(8)
         } else {
             None

@@ -7,9 +7,6 @@ use raze::disk::Disk;
 use crate::Failure;
 use crate::capacities::Totals;
 
-/// No image of a script or a session is longer.
-pub const LARGEST: usize = 65_536;
-
 /// The disk of the image, or a fresh one where there is none. It has to load and
 /// to be inside the capacities; `name` tells whose it is.
 pub fn disk(name: &str, image: Option<&[u8]>) -> Result<Disk, Failure> {

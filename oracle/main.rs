@@ -10,6 +10,7 @@ mod answers;
 mod capacities;
 mod dsk;
 mod dump;
+mod errors;
 mod images;
 mod load;
 mod noise;

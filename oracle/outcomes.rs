@@ -3,7 +3,6 @@
 mod controller;
 
 use std::io::{self, Write};
-use std::ptr;
 
 use raze::disk::{Disk, Sector, Track};
 use raze::floppy::SectorId;
@@ -61,20 +60,11 @@ fn run(operation: &Operation, mut disk: Disk, out: &mut impl Write) -> io::Resul
 }
 
 fn format(disk: &mut Disk, track: Track, out: &mut impl Write) -> io::Result<()> {
-    if let Some(number) = totals_with(disk, &track).refusal() {
+    if let Some(number) = Totals::with(disk, &track).refusal() {
         return writeln!(out, "refused {number}");
     }
     disk.set_track(track.side(), track.cylinder(), track);
     print_done(disk, out)
-}
-
-/// What the disk would hold with this track, for which the first of the same
-/// side and cylinder makes room.
-fn totals_with(disk: &Disk, track: &Track) -> Totals {
-    let old = disk.get_track(track.side(), track.cylinder());
-    let is_old = |other: &&Track| old.is_some_and(|old| ptr::eq(*other, old));
-    let kept = disk.tracks().iter().filter(|other| !is_old(other));
-    Totals::of_tracks(kept.chain([track]))
 }
 
 fn save(

@@ -5,8 +5,7 @@
 use std::fmt;
 use std::io::{self, Write};
 
-use crate::load::LARGEST;
-use crate::stream::{self, Record};
+use crate::stream::{self, LARGEST_DISK, Record};
 
 /// Where a track is: side and cylinder.
 pub type Place = [u8; 2];
@@ -114,8 +113,8 @@ impl Script {
     /// The script of that record and these operations, or what is wrong with them.
     pub fn new(record: Record, operations: Vec<Operation>) -> Result<Script, String> {
         let name = record.name();
-        if record.image().len() > LARGEST {
-            return Err(format!("the image of {name} is over {LARGEST} bytes"));
+        if record.image().len() > LARGEST_DISK {
+            return Err(format!("the image of {name} is over {LARGEST_DISK} bytes"));
         }
         if operations.len() > u16::MAX.into() {
             return Err(format!("{name} has over {} operations", u16::MAX));

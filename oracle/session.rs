@@ -8,8 +8,7 @@ use std::fmt;
 use std::io::{self, Write};
 
 use crate::dump;
-use crate::load::LARGEST;
-use crate::stream::{self, Record};
+use crate::stream::{self, LARGEST_DISK, Record};
 
 /// More bytes are not printed one by one.
 const MOST_PRINTED: usize = 24;
@@ -153,17 +152,17 @@ impl Session {
     /// The session of that name, with these images and calls, or what is wrong
     /// with them.
     pub fn new(name: String, [a, b]: [Vec<u8>; 2], calls: Vec<Call>) -> Result<Session, String> {
-        if a.len().max(b.len()) > LARGEST {
-            return Err(format!("an image of {name} is over {LARGEST} bytes"));
+        if a.len().max(b.len()) > LARGEST_DISK {
+            return Err(format!("an image of {name} is over {LARGEST_DISK} bytes"));
         }
         let session = Session {
             a: Record::new(name, a)?,
             b,
             calls,
         };
-        if session.call_bytes().len() > LARGEST {
+        if session.call_bytes().len() > LARGEST_DISK {
             return Err(format!(
-                "the calls of {} are over {LARGEST} bytes",
+                "the calls of {} are over {LARGEST_DISK} bytes",
                 session.name()
             ));
         }

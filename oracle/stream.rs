@@ -7,6 +7,9 @@ use std::io::{self, Write};
 /// No image of the stream is longer.
 const LARGEST: usize = 262_144;
 
+/// No image of a script or a session is longer.
+pub const LARGEST_DISK: usize = 65_536;
+
 /// A named image.
 pub struct Record {
     name: String,

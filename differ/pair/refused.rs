@@ -1,0 +1,116 @@
+//! Calls that are refused, which the Rust does not know: the number is compared,
+//! and that every lent byte is as it was.
+
+use std::fmt;
+
+use super::Pair;
+use crate::chance::Chance;
+use crate::view::{C1, COUNT, CYLINDER, FILL, HELD, PLACE, REPLY, View};
+use crate::watch::{Checked, Difference};
+use crate::{faults, host};
+
+impl Pair<'_> {
+    /// Whether a call that is lent the transfer buffer is refused, because the
+    /// data reach beyond it.
+    pub(super) fn refuses_data(&self) -> bool {
+        !self.lent(true).holds_data()
+    }
+
+    /// Compares the answer of a refused call, and that nothing has changed.
+    pub(super) fn refused(
+        &mut self,
+        call: impl fmt::Display,
+        number: u8,
+        answer: u64,
+        before: &[u8],
+    ) -> Checked {
+        self.watch.say(format_args!(
+            "{call}: expected refusal {number}, library {answer:#06x}"
+        ));
+        self.watch.refusal("call", number);
+        if answer != host::refused(number) {
+            let expected = format!("{:#x}, refusal {number}", host::refused(number));
+            return Err(Difference::new(call, expected, format!("{answer:#x}")));
+        }
+        let call = format!("{call}, refused {number}");
+        self.controller_is(before, &call)?;
+        self.compare_transfer(&call)?;
+        let store = &self.disks[self.slot.unwrap_or(0)].store;
+        store.compare(&call, self.watch)
+    }
+
+    pub(super) fn controller_is(&mut self, before: &[u8], call: &str) -> Checked {
+        self.watch.compared(before.len());
+        if self.controller == before {
+            return Ok(());
+        }
+        let call = format!("{call}: the controller");
+        Err(Difference::new(call, View(before), View(&self.controller)))
+    }
+
+    /// Makes some call with a controller that cannot be: 1, and nothing changes.
+    pub fn impossible(&mut self, chance: &mut Chance) -> Checked {
+        let wrong = faults::impossible(&self.controller, chance);
+        let good = std::mem::replace(&mut self.controller, wrong.clone());
+        let (name, answer) = self.call_any(wrong.len() == good.len(), chance);
+        let call = format!("{name} with impossible bytes");
+        self.refused(call, 1, answer, &wrong)?;
+        self.controller = good;
+        Ok(())
+    }
+
+    /// Some call, as the library has it. `new` is refused for a length only.
+    fn call_any(&mut self, right_length: bool, chance: &mut Chance) -> (&'static str, u64) {
+        let controller = &mut self.controller;
+        let store = &mut self.disks[self.slot.unwrap_or(0)].store;
+        let (name, answer) = match chance.below(if right_length { 8 } else { 9 }) {
+            0 => ("set_motor", host::set_motor(controller, chance.byte())),
+            1 => ("motor", host::motor(controller)),
+            2 => ("current_track", host::current_track(controller)),
+            3 => ("set_disk", host::set_disk(controller, chance.byte())),
+            4 => ("disk", host::disk(controller)),
+            5 => ("status", host::read_status(controller)),
+            6 => {
+                let transfer = self.transfer.part();
+                ("data read", host::read_cmd(controller, transfer))
+            }
+            7 => {
+                let (table, data) = (store.table.part_mut(), store.data.part_mut());
+                let transfer = self.transfer.part_mut();
+                let b = chance.byte();
+                let answer = host::write_cmd(controller, table, data, transfer, b);
+                ("byte sent", answer)
+            }
+            _ => ("new", host::new(controller)),
+        };
+        self.watch.call(name);
+        (name, answer)
+    }
+
+    /// Changes bytes of the controller that do not count: of a command, a reply and
+    /// a write behind their ends, and of a write where none is in progress.
+    pub fn scramble(&mut self, chance: &mut Chance) -> Checked {
+        let bytes = &mut self.controller;
+        let noise = chance.bytes(bytes.len());
+        let count: usize = bytes[COUNT].into();
+        let read = REPLY + usize::from(bytes[PLACE]);
+        let filled = REPLY + usize::from(bytes[FILL]);
+        let held = View(bytes).held().map(|held| HELD + held.len());
+        let pending = if held.is_some() { CYLINDER } else { C1 };
+        let dead = [
+            count..COUNT,
+            REPLY..read,
+            filled..PLACE,
+            pending..CYLINDER,
+            held.unwrap_or(HELD)..bytes.len(),
+        ];
+        for range in dead {
+            bytes[range.clone()].copy_from_slice(&noise[range]);
+        }
+        self.say("bytes of the controller that do not count are changed");
+        match View(&self.controller).differs(&self.rust) {
+            None => Ok(()),
+            Some(name) => Err(Difference::new("bytes that do not count", "the same", name)),
+        }
+    }
+}
