@@ -13,7 +13,7 @@ use Rattle.registers.specs.declared.regs.Regs.{Regs}
 use Rattle.registers.specs.declared.regs.Pending.{Pending}
 use Rattle.registers.specs.Table.{kindOf, bytesFor}
 use Rattle.registers.specs.View.{impossible, impossibleIn, wrongWrite}
-use Rattle.registers.proofs.Rows.{bytes-most}
+use Rattle.registers.proofs.Rows.{bytes-range}
 
 neither : (a b : Bool) → (a || b) ≡ false → (a ≡ false) × (b ≡ false)
 neither true b e = let z : _≡_ {A = ℕ} 0 1 = cc in absurd (omega arith)
@@ -54,7 +54,7 @@ unfolding impossibleIn
 until-in x r e = ltb-false (transferRoom x) (r .until) (neither (impossible r) (ltb (transferRoom x) (r .until)) e .1)
 
 pub count-few : (r : Regs) → impossible r ≡ false → r .count < 9
-count-few r e = omega (arith, possible r e .count-in, bytes-most (kindOf (getD (r .command) 0 0)))
+count-few r e = omega (arith, possible r e .count-in, bytes-range (kindOf (getD (r .command) 0 0)) .1)
 
 room-length : (x : List ℕ) → transferRoom x ≤ length x
 unfolding transferRoom

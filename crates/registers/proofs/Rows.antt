@@ -116,17 +116,17 @@ unfolding maskRows
 mask-none c h1 h2 h3 h4 h5 h6 h7 h8 h9 h10 h11 = none-pass maskRows c (ne-eqb (c % 32) 0x10 h1, (ne-eqb (c % 32) 0x06 h2, (ne-eqb (c % 32) 0x0C h3, (ne-eqb (c % 64) 0x05 h4, (ne-eqb (c / 128 * 128 + c % 64) 0x0A h5, (ne-eqb (c / 128 * 128 + c % 64) 0x0D h6, (ne-eqb (c % 64) 0x09 h7, (ne-eqb (c / 128 * 128 + c % 32) 0x02 h8, (ne-eqb (c % 32) 0x11 h9, (ne-eqb (c % 32) 0x19 h10, (ne-eqb (c % 32) 0x1D h11, tt)))))))))))
 
 -- ---- how many bytes a command can have
-pub bytes-most : (k : Kind) → bytesFor k ≤ 9
-bytes-most Specify = omega arith
-bytes-most SenseDrive = omega arith
-bytes-most Recalibrate = omega arith
-bytes-most SenseInterrupt = omega arith
-bytes-most SeekTo = omega arith
-bytes-most Version = omega arith
-bytes-most ReadData = omega arith
-bytes-most ReadDeleted = omega arith
-bytes-most WriteData = omega arith
-bytes-most ReadId = omega arith
-bytes-most FormatTrack = omega arith
-bytes-most Unserved = omega arith
-bytes-most Invalid = omega arith
+pub bytes-range : (k : Kind) → (1 ≤ bytesFor k) × (bytesFor k ≤ 9)
+bytes-range Specify = (omega arith, omega arith)
+bytes-range SenseDrive = (omega arith, omega arith)
+bytes-range Recalibrate = (omega arith, omega arith)
+bytes-range SenseInterrupt = (omega arith, omega arith)
+bytes-range SeekTo = (omega arith, omega arith)
+bytes-range Version = (omega arith, omega arith)
+bytes-range ReadData = (omega arith, omega arith)
+bytes-range ReadDeleted = (omega arith, omega arith)
+bytes-range WriteData = (omega arith, omega arith)
+bytes-range ReadId = (omega arith, omega arith)
+bytes-range FormatTrack = (omega arith, omega arith)
+bytes-range Unserved = (omega arith, omega arith)
+bytes-range Invalid = (omega arith, omega arith)

@@ -7,6 +7,9 @@ use store::Done;
 ghost use mathlib.Core.Path.{_≡_};
 ghost use mathlib.Core.List.{_∷_, []};
 ghost use Prim.Native.Nat.{_<_};
+ghost use lib.ListN.{getD};
+ghost use lib.Dec.{leb};
+ghost use Rattle.registers.specs.Table.{kindOf, bytesFor};
 ghost use Rattle.registers.specs.Boxes.{Add, Hold, Clear, Turn, Start, Finish, MoveTo};
 ghost use Rattle.registers.specs.View.{impossible, wrongWrite};
 ghost use Rattle.registers.specs.Settle.{replied, sought, withDrive, regsTaken, regsChanged, kept};
@@ -91,6 +94,17 @@ impl Pending {
 }
 
 impl Regs {
+    // Whether as much was sent as the command has, or more. Where nothing was sent, no table is asked.
+    fn oversent(self) -> bool
+        ensures { λ r. ⌜ r ≡ leb (bytesFor (kindOf (getD (self .command) 0 0))) (self .count) ⌝ }
+    {
+        if self.count == 0 {
+            return false;
+        }
+        let command = self.command;
+        bytes_for(kind_of(command[0])) <= self.count
+    }
+
     // Numbers that no controller has.
     pub fn impossible(self) -> bool
         ensures { λ r. ⌜ r ≡ impossible self ⌝ }
@@ -104,8 +118,7 @@ impl Regs {
         if 7 < self.fill {
             return true;
         }
-        let command = self.command;
-        if bytes_for(kind_of(command[0])) <= self.count {
+        if self.oversent() {
             return true;
         }
         if 2 < self.lost {

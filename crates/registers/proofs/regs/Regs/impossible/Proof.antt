@@ -1,6 +1,5 @@
-use mathlib.Core.Path.{_≡_, refl, sym, ap, _∙_}
-use borrow.Author.Tests.{eq-eqb, ne-eqb, lt-ltb, le-ltb, le-leb, lt-leb, not-true, not-false}
-use Rattle.registers.specs.Table.{bytesFor}
+use mathlib.Core.Path.{_≡_, sym, _∙_}
+use borrow.Author.Tests.{lt-ltb, le-ltb}
 use Rattle.registers.specs.View.{impossible}
 use borrow.Author.Needs.{needs}
 use Rattle.registers.proofs.regs.Regs.impossible.Statement.{statement}
@@ -18,29 +17,23 @@ returns-3 : tie.Need-returns-3
 unfolding impossible
 returns-3 c = simp (le-ltb _ _ (c .before .before .before .before .if1 .left), le-ltb _ _ (c .before .before .if2 .left), lt-ltb _ _ (c .if3 .taken))
 
-array-read-kind-of : tie.Need-array-read-kind-of
-array-read-kind-of c = search needs
-
-kind-of-requires : tie.Need-kind-of-requires
-kind-of-requires c κs = search needs
-
-bytes-for-requires : tie.Need-bytes-for-requires
-bytes-for-requires c κs = search needs
+oversent-requires : tie.Need-oversent-requires
+oversent-requires c κs = search needs
 
 returns-4 : tie.Need-returns-4
 unfolding impossible
-returns-4 c = simp (le-ltb _ _ (c .before .before .before .before .before .before .before .before .before .if1 .left), le-ltb _ _ (c .before .before .before .before .before .before .before .if2 .left), le-ltb _ _ (c .before .before .before .before .before .if3 .left), (sym (c .before .before .bytes-for .ensures ∙ ap bytesFor (c .before .before .before .kind-of .ensures))), le-leb _ _ (c .if4 .taken))
+returns-4 c = simp (le-ltb _ _ (c .before .before .before .before .before .before .if1 .left), le-ltb _ _ (c .before .before .before .before .if2 .left), le-ltb _ _ (c .before .before .if3 .left), (sym (c .before .oversent .ensures) ∙ c .if4 .taken))
 
 returns-5 : tie.Need-returns-5
 unfolding impossible
-returns-5 c = simp (le-ltb _ _ (c .before .before .before .before .before .before .before .before .before .before .before .if1 .left), le-ltb _ _ (c .before .before .before .before .before .before .before .before .before .if2 .left), le-ltb _ _ (c .before .before .before .before .before .before .before .if3 .left), (sym (c .before .before .before .before .bytes-for .ensures ∙ ap bytesFor (c .before .before .before .before .before .kind-of .ensures))), lt-leb _ _ (c .before .before .if4 .left), lt-ltb _ _ (c .if5 .taken))
+returns-5 c = simp (le-ltb _ _ (c .before .before .before .before .before .before .before .before .if1 .left), le-ltb _ _ (c .before .before .before .before .before .before .if2 .left), le-ltb _ _ (c .before .before .before .before .if3 .left), (sym (c .before .before .before .oversent .ensures) ∙ c .before .before .if4 .left), lt-ltb _ _ (c .if5 .taken))
 
 wrong-requires : tie.Need-wrong-requires
 wrong-requires c κs = search needs
 
 returns-6 : tie.Need-returns-6
 unfolding impossible
-returns-6 c = c .wrong .ensures ∙ simp (le-ltb _ _ (c .before .before .before .before .before .before .before .before .before .before .before .before .before .if1 .left), le-ltb _ _ (c .before .before .before .before .before .before .before .before .before .before .before .if2 .left), le-ltb _ _ (c .before .before .before .before .before .before .before .before .before .if3 .left), (sym (c .before .before .before .before .before .before .bytes-for .ensures ∙ ap bytesFor (c .before .before .before .before .before .before .before .kind-of .ensures))), lt-leb _ _ (c .before .before .before .before .if4 .left), le-ltb _ _ (c .before .before .if5 .left))
+returns-6 c = c .wrong .ensures ∙ simp (le-ltb _ _ (c .before .before .before .before .before .before .before .before .before .before .if1 .left), le-ltb _ _ (c .before .before .before .before .before .before .before .before .if2 .left), le-ltb _ _ (c .before .before .before .before .before .before .if3 .left), (sym (c .before .before .before .before .before .oversent .ensures) ∙ c .before .before .before .before .if4 .left), le-ltb _ _ (c .before .before .if5 .left))
 
 pub impossible-spec : {M : Type 1} → statement M
 impossible-spec =
@@ -49,9 +42,7 @@ impossible-spec =
     returns
     returns-2
     returns-3
-    array-read-kind-of
-    kind-of-requires
-    bytes-for-requires
+    oversent-requires
     returns-4
     returns-5
     wrong-requires

@@ -1,0 +1,30 @@
+use mathlib.Core.Path.{_≡_, sym, ap, _∙_}
+use Prim.Native.Nat.{ℕ}
+use native.Mathlib.Omega.{arith}
+use lib.ListN.{getD}
+use lib.Dec.{leb}
+use borrow.Author.Tests.{lt-leb}
+use Rattle.registers.specs.Table.{kindOf, bytesFor}
+use Rattle.registers.proofs.Rows.{bytes-range}
+use borrow.Author.Needs.{needs}
+use Rattle.registers.proofs.regs.Regs.oversent.Statement.{statement}
+use Rattle.registers.proofs.regs.Regs.oversent.Tie as tie
+
+returns : tie.Need-returns
+returns c = sym (lt-leb (bytesFor (kindOf (getD (c .before .before .args .self .command) 0 0))) (c .before .before .args .self .count) (omega (arith, c .if1 .taken, bytes-range (kindOf (getD (c .before .before .args .self .command) 0 0)) .0)))
+
+array-read-kind-of : tie.Need-array-read-kind-of
+array-read-kind-of c = search needs
+
+kind-of-requires : tie.Need-kind-of-requires
+kind-of-requires c κs = search needs
+
+bytes-for-requires : tie.Need-bytes-for-requires
+bytes-for-requires c κs = search needs
+
+returns-2 : tie.Need-returns-2
+returns-2 c = ap (λ (n : ℕ). leb n (c .before .before .before .before .before .before .args .self .count)) (c .before .bytes-for .ensures ∙ ap bytesFor (c .before .before .kind-of .ensures))
+
+pub oversent-spec : {M : Type 1} → statement M
+oversent-spec =
+    tie.close (tie.spec returns array-read-kind-of kind-of-requires bytes-for-requires returns-2)
