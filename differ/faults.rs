@@ -63,6 +63,17 @@ pub fn impossible(controller: &[u8], chance: &mut Chance) -> Vec<u8> {
     bytes
 }
 
+/// A controller whose data reach beyond a transfer room, mostly by one byte. It is
+/// refused by the calls that are lent the transfer buffer, and by no other.
+pub fn beyond(controller: &[u8], room: usize, chance: &mut Chance) -> Vec<u8> {
+    let mut bytes = controller.to_vec();
+    let until = room + chance.of(&[1, 1, 1, 2, 4_096]);
+    let from = until - chance.below(3).min(until);
+    bytes[FROM..UNTIL].copy_from_slice(&(from as u32).to_le_bytes());
+    bytes[UNTIL..LOST].copy_from_slice(&(until as u32).to_le_bytes());
+    bytes
+}
+
 /// A number that is too large, mostly just so.
 fn over(chance: &mut Chance, least: u8) -> u8 {
     match chance.below(4) {

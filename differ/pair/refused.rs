@@ -2,12 +2,20 @@
 //! and that every lent byte is as it was.
 
 use std::fmt;
+use std::ops::Range;
 
 use super::Pair;
+use crate::capacities::MOST_TRANSFER;
 use crate::chance::Chance;
+use crate::host::CONTROLLER;
 use crate::view::{C1, COUNT, CYLINDER, FILL, HELD, PLACE, REPLY, View};
 use crate::watch::{Checked, Difference};
 use crate::{faults, host};
+
+/// The numbers of the calls that are lent the transfer buffer, and of `new`, which
+/// is refused for a wrong length only.
+const LENT_TRANSFER: Range<usize> = 6..8;
+const NEW: usize = 8;
 
 impl Pair<'_> {
     /// Whether a call that is lent the transfer buffer is refused, because the
@@ -50,20 +58,36 @@ impl Pair<'_> {
 
     /// Makes some call with a controller that cannot be: 1, and nothing changes.
     pub fn impossible(&mut self, chance: &mut Chance) -> Checked {
+        if chance.once_in(8) {
+            let room = self.transfer.lent().min(MOST_TRANSFER);
+            let wrong = faults::beyond(&self.controller, room, chance);
+            return self.refuses(wrong, LENT_TRANSFER, chance);
+        }
         let wrong = faults::impossible(&self.controller, chance);
+        let calls = if wrong.len() == CONTROLLER {
+            0..NEW
+        } else {
+            0..NEW + 1
+        };
+        self.refuses(wrong, calls, chance)
+    }
+
+    /// Makes one of the calls with this controller, which it refuses.
+    fn refuses(&mut self, wrong: Vec<u8>, calls: Range<usize>, chance: &mut Chance) -> Checked {
         let good = std::mem::replace(&mut self.controller, wrong.clone());
-        let (name, answer) = self.call_any(wrong.len() == good.len(), chance);
+        let number = calls.start + chance.below(calls.len());
+        let (name, answer) = self.call(number, chance);
         let call = format!("{name} with impossible bytes");
         self.refused(call, 1, answer, &wrong)?;
         self.controller = good;
         Ok(())
     }
 
-    /// Some call, as the library has it. `new` is refused for a length only.
-    fn call_any(&mut self, right_length: bool, chance: &mut Chance) -> (&'static str, u64) {
+    /// The call of this number, as the library has it.
+    fn call(&mut self, number: usize, chance: &mut Chance) -> (&'static str, u64) {
         let controller = &mut self.controller;
         let store = &mut self.disks[self.slot.unwrap_or(0)].store;
-        let (name, answer) = match chance.below(if right_length { 8 } else { 9 }) {
+        let (name, answer) = match number {
             0 => ("set_motor", host::set_motor(controller, chance.byte())),
             1 => ("motor", host::motor(controller)),
             2 => ("current_track", host::current_track(controller)),
