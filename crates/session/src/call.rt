@@ -125,20 +125,8 @@ pub fn motor(on: usize, controller: &mut Controller, out: &mut Out) {
     answer(host::floppy_set_motor(controller, (on % 256) as u8), out);
 }
 
-fn statuses(times: usize, controller: &mut Controller, spare: &mut Spare) -> Passed {
-    let mut count: usize = 0;
-    while count < times {
-        let word = host::floppy_read_status(controller);
-        if refusal(word) != 0 {
-            return Passed {
-                count,
-                at: count + 1,
-                word,
-            };
-        }
-        put_at(spare, count, (word % 256) as u8);
-        count += 1;
-    }
+// No call was refused.
+fn all(count: usize) -> Passed {
     Passed {
         count,
         at: 0,
@@ -146,25 +134,32 @@ fn statuses(times: usize, controller: &mut Controller, spare: &mut Spare) -> Pas
     }
 }
 
+fn statuses(times: usize, controller: &mut Controller, spare: &mut Spare) -> Passed {
+    let mut count: usize = 0;
+    while count < times {
+        let word = host::floppy_read_status(controller);
+        if refusal(word) != 0 {
+            let at = count + 1;
+            return Passed { count, at, word };
+        }
+        put_at(spare, count, (word % 256) as u8);
+        count += 1;
+    }
+    all(count)
+}
+
 fn reads(times: usize, controller: &mut Controller, transfer: &[u8], spare: &mut Spare) -> Passed {
     let mut count: usize = 0;
     while count < times {
         let word = host::floppy_read_cmd(controller, transfer);
         if refusal(word) != 0 {
-            return Passed {
-                count,
-                at: count + 1,
-                word,
-            };
+            let at = count + 1;
+            return Passed { count, at, word };
         }
         put_at(spare, count, (word % 256) as u8);
         count += 1;
     }
-    Passed {
-        count,
-        at: 0,
-        word: 0,
-    }
+    all(count)
 }
 
 fn sends(
@@ -178,19 +173,12 @@ fn sends(
     while count < sent.len() {
         let word = host::floppy_write_cmd(controller, table, content, transfer, sent[count]);
         if refusal(word) != 0 {
-            return Passed {
-                count,
-                at: count + 1,
-                word,
-            };
+            let at = count + 1;
+            return Passed { count, at, word };
         }
         count += 1;
     }
-    Passed {
-        count,
-        at: 0,
-        word: 0,
-    }
+    all(count)
 }
 
 // The refusal that ended a call, with its place where the call was of several bytes.
@@ -252,7 +240,7 @@ fn send(
     controller: &mut Controller,
     table: &mut Table,
     content: &mut Content,
-    transfer: &mut Transfer,
+    transfer: &mut [u8],
 ) -> Passed {
     let room = least(lent, transfer.len());
     sends(sent, controller, table, content, &mut transfer[..room])

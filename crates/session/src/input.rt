@@ -14,7 +14,7 @@ pub type Line = [u8; 4097];
 pub struct Input {
     at: usize,
     end: usize,
-    pub len: usize,
+    len: usize,
     pub over: bool,
 }
 
@@ -85,4 +85,9 @@ pub fn take_line(last: Input, piece: &mut Piece, line: &mut Line, out: &mut Out)
         left -= 1;
     }
     input
+}
+
+// The line that was taken.
+pub fn taken<'a>(input: Input, line: &'a Line) -> &'a [u8] {
+    buffer::part(line, 0, input.len)
 }

@@ -62,16 +62,21 @@ pub fn word<'a>(line: &'a [u8], number: usize) -> &'a [u8] {
     text_of(line, span)
 }
 
+// How many words begin at a byte behind one that is blank or is not.
+fn begins(behind_blank: bool, blank: bool) -> usize
+    ensures { λ r. ⌜ r ≤ 1 ⌝ }
+{
+    if behind_blank && !blank { 1 } else { 0 }
+}
+
 pub fn count(line: &[u8]) -> usize {
     let mut words: usize = 0;
-    let mut outside = true;
+    let mut behind_blank = true;
     let mut i = 0;
     while i < line.len() {
         let blank = is_blank(line[i]);
-        if outside && !blank {
-            words += 1;
-        }
-        outside = blank;
+        words += begins(behind_blank, blank);
+        behind_blank = blank;
         i += 1;
     }
     words
@@ -100,13 +105,22 @@ pub fn rest<'a>(line: &'a [u8]) -> &'a [u8] {
 fn digit(b: u8) -> usize
     ensures { λ r. ⌜ r ≤ 16 ⌝ }
 {
-    if b'0' <= b && b <= b'9' {
+    if b < b'0' {
+        return 16;
+    }
+    if b <= b'9' {
         return (b - b'0') as usize;
     }
-    if b'A' <= b && b <= b'F' {
+    if b < b'A' {
+        return 16;
+    }
+    if b <= b'F' {
         return (b - b'A') as usize + 10;
     }
-    if b'a' <= b && b <= b'f' {
+    if b < b'a' {
+        return 16;
+    }
+    if b <= b'f' {
         return (b - b'a') as usize + 10;
     }
     16

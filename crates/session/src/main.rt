@@ -121,7 +121,7 @@ fn run(
             return;
         }
         number += 1;
-        let text = buffer::part(&line, 0, input.len);
+        let text = input::taken(input, &line);
         lent = run_line(
             number,
             text,

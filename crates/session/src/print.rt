@@ -87,9 +87,9 @@ fn column(n: usize, out: &mut Out) {
     decimal(n as u64, out);
 }
 
-fn hex_digit(d: u8) -> u8
-    requires { ⌜ d < 16 ⌝ }
-{
+// The last hex digit of a number.
+fn hex_digit(n: u8) -> u8 {
+    let d = n % 16;
     if d < 10 { b'0' + d } else { b'7' + d }
 }
 
@@ -100,7 +100,7 @@ fn row(bytes: &[u8], out: &mut Out) {
         let b = bytes[i];
         put(b' ', out);
         put(hex_digit(b / 16), out);
-        put(hex_digit(b % 16), out);
+        put(hex_digit(b), out);
         i += 1;
     }
     put(b'\n', out);

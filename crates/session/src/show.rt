@@ -21,7 +21,7 @@ fn fields(table: &[u8], from: usize, count: usize, out: &mut Out) {
     let bytes = buffer::part(table, from, count);
     let mut i = 0;
     while i < bytes.len() {
-        field(bytes[i] as u64, out);
+        field(listing::byte(bytes, i), out);
         i += 1;
     }
 }
