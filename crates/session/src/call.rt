@@ -3,6 +3,7 @@ use crate::message::start_at;
 use crate::parse::Spare;
 use crate::parse::put_at;
 use crate::print::Out;
+use crate::print::ROW;
 use crate::print::answer;
 use crate::print::field;
 use crate::print::flush;
@@ -13,9 +14,6 @@ use crate::print::rows;
 use crate::print::text;
 use crate::show;
 ghost use Prim.Native.Nat.{_≤_};
-
-// So many bytes are shown on one line.
-const ROW: usize = 16;
 
 // What the host lends to its calls.
 pub type Controller = [u8; 1066];
@@ -33,7 +31,7 @@ struct Passed {
     word: u64,
 }
 
-// A file's bytes.
+// What came of a file, and how many bytes it has.
 enum Fetched {
     Unopened,
     Unread,
@@ -115,6 +113,7 @@ pub fn load(
     }
 }
 
+// Takes the disk out.
 pub fn remove(controller: &mut Controller, out: &mut Out) {
     answer(host::floppy_set_disk(controller, 0), out);
 }

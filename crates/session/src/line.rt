@@ -2,9 +2,9 @@
 ghost use Prim.Native.Nat.{_≤_};
 
 // No number of a script is larger.
-pub const MOST: usize = 65536;
+const MOST: usize = 65536;
 
-// What a word names, if that is a number.
+// The number that a word names, if it names one.
 pub enum Value {
     Other,
     Number(usize),
@@ -62,13 +62,14 @@ pub fn word<'a>(line: &'a [u8], number: usize) -> &'a [u8] {
     text_of(line, span)
 }
 
-// How many words begin at a byte behind one that is blank or is not.
+// 1 where a word begins, else 0.
 fn begins(behind_blank: bool, blank: bool) -> usize
     ensures { λ r. ⌜ r ≤ 1 ⌝ }
 {
     if behind_blank && !blank { 1 } else { 0 }
 }
 
+// How many words a line has.
 pub fn count(line: &[u8]) -> usize {
     let mut words: usize = 0;
     let mut behind_blank = true;
@@ -101,7 +102,7 @@ pub fn rest<'a>(line: &'a [u8]) -> &'a [u8] {
     between(line, second.from, end(line))
 }
 
-// What a digit counts, 16 where it is none.
+// What a hex digit counts, 16 where it is none.
 fn digit(b: u8) -> usize
     ensures { λ r. ⌜ r ≤ 16 ⌝ }
 {

@@ -10,7 +10,7 @@ use crate::print::text;
 // No more of a word is repeated.
 const MOST_QUOTED: usize = 60;
 
-// A letter as it is; other bytes could command a terminal.
+// A letter as it is, and nothing that could command a terminal.
 fn letter(b: u8) -> u8 {
     if b < 32 || 126 < b { b'?' } else { b }
 }
@@ -24,7 +24,7 @@ fn letters(word: &[u8], out: &mut Out) {
 }
 
 // The number of a line, before what is wrong with it.
-pub fn start(number: u64, out: &mut Out) {
+fn start(number: u64, out: &mut Out) {
     text(b"line", out);
     field(number, out);
     text(b": ", out);
@@ -62,11 +62,12 @@ fn form(name: Name, out: &mut Out) {
     }
 }
 
+// What is wrong with a line.
 fn what(number: u64, line: &[u8], fault: Fault, out: &mut Out) {
     match fault {
         Fault::Few => {
             start(number, out);
-            text(b"a word is missing", out);
+            text(b"too few words", out);
         }
         Fault::Many => {
             start(number, out);

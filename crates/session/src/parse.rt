@@ -1,4 +1,4 @@
-// What a line of a script asks for. No call is made here: a line that is not understood changes nothing.
+// What a line of a script asks for. No call is made here, so a line that is not understood changes nothing.
 use crate::line;
 use crate::line::Value;
 
@@ -26,14 +26,17 @@ pub enum Fault {
     Unfit(usize),
 }
 
-// A call has one number: of times, of bytes that it names, or what it sets.
+// A call comes with one number: how often, how many bytes it names, or what it sets.
 pub enum Parsed {
     Nothing,
     Call(Name, usize),
     Wrong(Name, Fault),
 }
 
-// The bytes that a line names, or a file's.
+// '#', which begins a comment.
+const HASH: usize = 35;
+
+// Bytes of one line: those that it names, those that it reads, or those of its file, which may be no longer.
 pub type Spare = [u8; 2097152];
 
 fn name_of(word: &[u8]) -> Name {
@@ -77,7 +80,7 @@ fn name_of_disk_call(word: &[u8]) -> Name {
     Name::Unknown
 }
 
-// How many words a line of this call has at least, and at most.
+// How many words a line of this call has at least.
 fn fewest(name: Name) -> usize {
     match name {
         Name::Load => 2,
@@ -90,6 +93,7 @@ fn fewest(name: Name) -> usize {
     }
 }
 
+// How many it has at most.
 fn most(name: Name) -> usize {
     match name {
         Name::Load => usize::MAX,
@@ -149,7 +153,7 @@ pub fn put_at(bytes: &mut [u8], at: usize, b: u8) {
     }
 }
 
-// Lays out the bytes that the words behind the first name.
+// Lays out the bytes that are named by the words behind the first.
 fn list(name: Name, text: &[u8], in_hex: bool, spare: &mut Spare) -> Parsed {
     let words = line::count(text);
     let mut span = line::next(text, 0);
@@ -188,7 +192,7 @@ fn operands(name: Name, text: &[u8], spare: &mut Spare) -> Parsed {
 pub fn parse(text: &[u8], spare: &mut Spare) -> Parsed {
     let words = line::count(text);
     let first = line::word(text, 0);
-    if words == 0 || image::byte(first, 0) == 35 {
+    if words == 0 || image::byte(first, 0) == HASH {
         return Parsed::Nothing;
     }
     let name = name_of(first);

@@ -12,7 +12,7 @@ const ROOM: usize = 4096;
 const MOST_SHOWN: usize = 65536;
 
 // How many bytes of hex stand in a row.
-const ROW: usize = 16;
+pub const ROW: usize = 16;
 
 fn waiting(out: &Out) -> usize
     ensures { λ r. ⌜ r ≤ 4096 ⌝ }
@@ -58,7 +58,7 @@ pub fn text(letters: &[u8], out: &mut Out) {
     }
 }
 
-pub fn decimal(n: u64, out: &mut Out) {
+fn decimal(n: u64, out: &mut Out) {
     let mut digits = [0u8; 20];
     let k = io::decimal(n, &mut digits);
     text(&digits[..k], out);
