@@ -21,7 +21,7 @@ fn fields(table: &[u8], from: usize, count: usize, out: &mut Out) {
     let bytes = buffer::part(table, from, count);
     let mut i = 0;
     while i < bytes.len() {
-        field(listing::byte(bytes, i), out);
+        field(replay::byte(bytes, i), out);
         i += 1;
     }
 }
@@ -64,7 +64,7 @@ fn track(table: &[u8], at: usize, out: &mut Out)
 }
 
 fn totals(table: &[u8], out: &mut Out) {
-    let held = listing::measure(table);
+    let held = replay::measure(table);
     text(b"disk tracks", out);
     field(held.tracks as u64, out);
     text(b" sectors", out);
