@@ -298,18 +298,30 @@ fn show_sector(found: u64, content: &Content, out: &mut Out) {
 }
 
 // The sector whose address stands in the first six bytes: side, cylinder, c, h, r and n.
-pub fn sector(controller: &Controller, table: &Table, content: &Content, a: &Spare, out: &mut Out) {
+pub fn sector(
+    controller: &Controller,
+    table: &Table,
+    content: &Content,
+    address: &Spare,
+    out: &mut Out,
+) {
     if lacks_disk(controller, out) {
         return;
     }
-    let word = host::disk_has_sector(table, content, a[0], a[1], a[2], a[3], a[4], a[5]);
+    let side = address[0];
+    let cylinder = address[1];
+    let c = address[2];
+    let h = address[3];
+    let r = address[4];
+    let n = address[5];
+    let word = host::disk_has_sector(table, content, side, cylinder, c, h, r, n);
     if refusal(word) != 0 {
         return answer(word, out);
     }
     if word % 256 == 0 {
         return text(b"no such sector\n", out);
     }
-    let found = host::disk_sector(table, content, a[0], a[1], a[2], a[3], a[4], a[5]);
+    let found = host::disk_sector(table, content, side, cylinder, c, h, r, n);
     show_sector(found, content, out);
 }
 
