@@ -1,2 +1,3 @@
+pub mod Lends
 pub mod Lent
 pub mod Seen

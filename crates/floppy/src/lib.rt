@@ -191,4 +191,30 @@ impl Floppy {
         self.regs = a.regs;
         a.answer
     }
+
+    // The same three for code that the borrow checker covers: the controller is lent for the call and comes back.
+
+    pub fn write_lent(self, b: u8, table: &mut [u8], bytes: &mut [u8], transfer: &mut [u8]) -> After
+        ensures { λ r. ⌜ wrote r (now (table .exit)) (now (bytes .exit)) (now (transfer .exit)) ≡ wroteAs (dataWrite (self .regs) b (self .held) (now (table .entry)) (now (bytes .entry)) (now (transfer .entry))) ⌝ }
+    {
+        let mut f = self;
+        let done = f.write_cmd(b, table, bytes, transfer);
+        After { done, floppy: f }
+    }
+
+    pub fn read_lent(self, transfer: &[u8]) -> Shown
+        ensures { λ r. ⌜ r ≡ shownAs (dataRead (self .regs) (now (transfer .entry))) (self .held) ⌝ }
+    {
+        let mut f = self;
+        let byte = f.read_cmd(transfer);
+        Shown { byte, floppy: f }
+    }
+
+    pub fn status_lent(self) -> Shown
+        ensures { λ r. ⌜ r ≡ shownAs (statusRead (self .regs)) (self .held) ⌝ }
+    {
+        let mut f = self;
+        let byte = f.read_status();
+        Shown { byte, floppy: f }
+    }
 }

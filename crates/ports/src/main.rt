@@ -1,8 +1,11 @@
 // Replays the list of sessions in `stdin`: loads a session's two disks, then calls the controller as it says, and prints
 // what each call answers and what the controller and the disks hold in the end, in the form in which the Rust's own
-// answers stand in `stdout`. docs/ORACLE.md has both forms. The buffers are not cleared between two sessions.
+// answers stand in `stdout`. docs/ORACLE.md has both forms. Every session is replayed twice: with the port calls by value,
+// and, the buffers wiped, with those over a lent controller. The buffers are not cleared between two sessions.
 ghost use Prim.Native.Nat.{_<_, _≤_};
+use floppy::After;
 use floppy::Floppy;
+use floppy::Shown;
 use libc::STDERR_FILENO;
 use libc::STDOUT_FILENO;
 use registers::Byte;
@@ -17,15 +20,20 @@ const SESSIONS: u32 = 65536;
 // No image and no session's calls are longer.
 const LARGEST: usize = 65536;
 
+// The buffers hold nothing but this byte when a session is replayed for the second time.
+const WIPED: u8 = 165;
+
 // More bytes are not printed one by one.
 const MOST_HEX: usize = 24;
 
 // A disk with more tracks or sectors is not printed whole.
 const MOST_PRINTED: usize = 40;
 
-// The controller, which disk is in its drive (0 none, 1 A, 2 B), and how many bytes of each buffer are lent.
+// The controller, whether it is lent to the port calls, which disk is in its drive (0 none, 1 A, 2 B), and how many bytes
+// of each buffer are lent.
 struct Bench {
     floppy: Floppy,
+    lent: bool,
     disk: usize,
     table: usize,
     data: usize,
@@ -162,12 +170,45 @@ fn put_at(out: &mut [u8], at: usize, b: u8) {
     }
 }
 
+// A read of the status, over a lent controller or by value.
+fn status_once(f: Floppy, lent: bool) -> Shown {
+    if lent {
+        f.status_lent()
+    } else {
+        f.status_step()
+    }
+}
+
+// A read of the data port, likewise.
+fn read_once(f: Floppy, lent: bool, transfer: &[u8]) -> Shown {
+    if lent {
+        f.read_lent(transfer)
+    } else {
+        f.read_step(transfer)
+    }
+}
+
+// A byte sent, likewise.
+fn write_once(
+    f: Floppy,
+    lent: bool,
+    b: u8,
+    table: &mut [u8],
+    bytes: &mut [u8],
+    transfer: &mut [u8],
+) -> After {
+    if lent {
+        return f.write_lent(b, table, bytes, transfer);
+    }
+    f.write_step(b, table, bytes, transfer)
+}
+
 // Reads the status so many times, or until it is refused.
-fn statuses(floppy: Floppy, times: usize, out: &mut [u8]) -> Answers {
+fn statuses(floppy: Floppy, times: usize, lent: bool, out: &mut [u8]) -> Answers {
     let mut f = floppy;
     let mut k: usize = 0;
     while k < times {
-        let a = f.status_step();
+        let a = status_once(f, lent);
         let byte = a.byte;
         f = a.floppy;
         match byte {
@@ -190,11 +231,11 @@ fn statuses(floppy: Floppy, times: usize, out: &mut [u8]) -> Answers {
 }
 
 // Reads the data port so many times, or until it is refused.
-fn reads(floppy: Floppy, times: usize, transfer: &[u8], out: &mut [u8]) -> Answers {
+fn reads(floppy: Floppy, times: usize, lent: bool, transfer: &[u8], out: &mut [u8]) -> Answers {
     let mut f = floppy;
     let mut k: usize = 0;
     while k < times {
-        let a = f.read_step(transfer);
+        let a = read_once(f, lent, transfer);
         let byte = a.byte;
         f = a.floppy;
         match byte {
@@ -227,14 +268,14 @@ fn answered(bench: Bench, a: Answers, out: &[u8]) -> Bench {
 
 fn status(bench: Bench, times: usize, out: &mut [u8]) -> Bench {
     show(b"status", times);
-    let a = statuses(bench.floppy, times, out);
+    let a = statuses(bench.floppy, times, bench.lent, out);
     answered(bench, a, out)
 }
 
 fn read(bench: Bench, times: usize, transfer: &[u8], out: &mut [u8]) -> Bench {
     show(b"read", times);
-    let lent = buffer::part(transfer, 0, bench.transfer);
-    let a = reads(bench.floppy, times, lent, out);
+    let room = buffer::part(transfer, 0, bench.transfer);
+    let a = reads(bench.floppy, times, bench.lent, room, out);
     answered(bench, a, out)
 }
 
@@ -242,6 +283,7 @@ fn read(bench: Bench, times: usize, transfer: &[u8], out: &mut [u8]) -> Bench {
 fn send_round(
     floppy: Floppy,
     text: &[u8],
+    lent: bool,
     table: &mut [u8],
     bytes: &mut [u8],
     transfer: &mut [u8],
@@ -249,7 +291,7 @@ fn send_round(
     let mut f = floppy;
     let mut k: usize = 0;
     while k < text.len() {
-        let a = f.write_step(text[k], table, bytes, transfer);
+        let a = write_once(f, lent, text[k], table, bytes, transfer);
         let done = a.done;
         f = a.floppy;
         match done {
@@ -278,6 +320,7 @@ fn send_times(
     floppy: Floppy,
     text: &[u8],
     times: usize,
+    lent: bool,
     table: &mut [u8],
     bytes: &mut [u8],
     transfer: &mut [u8],
@@ -285,7 +328,7 @@ fn send_times(
     let mut f = floppy;
     let mut k: usize = 0;
     while k < times {
-        let s = send_round(f, text, table, bytes, transfer);
+        let s = send_round(f, text, lent, table, bytes, transfer);
         let done = s.done;
         f = s.floppy;
         match done {
@@ -325,6 +368,7 @@ fn send_lent(
         bench.floppy,
         text,
         times,
+        bench.lent,
         &mut table[..t],
         &mut bytes[..b],
         &mut transfer[..x],
@@ -569,9 +613,10 @@ fn step(
 }
 
 // A new controller without a disk, and the most that is lent of each buffer.
-fn new_bench() -> Bench {
+fn new_bench(lent: bool) -> Bench {
     Bench {
         floppy: Floppy::new(),
+        lent,
         disk: 0,
         table: 17609,
         data: 1048576,
@@ -581,6 +626,7 @@ fn new_bench() -> Bench {
 
 // Runs the calls of a session.
 fn play(
+    lent: bool,
     calls: &[u8],
     table_a: &mut [u8; 17609],
     bytes_a: &mut [u8; 1048576],
@@ -589,7 +635,7 @@ fn play(
     transfer: &mut [u8; 131072],
     out: &mut [u8; 65536],
 ) -> Bench {
-    let mut bench = new_bench();
+    let mut bench = new_bench(lent);
     let stop = least(calls.len(), LARGEST);
     let mut at: usize = 0;
     while at < stop {
@@ -684,9 +730,30 @@ fn finish(
     show_disk(table_b, bytes_b);
 }
 
-// Takes a session's calls and runs them; no where the list ends inside it.
+// Overwrites all that a buffer holds.
+fn wipe(bytes: &mut [u8]) {
+    let count = bytes.len();
+    buffer::fill(bytes, 0, count, WIPED);
+}
+
+// The line over a session's answers.
+fn headed(lent: bool, name: &[u8]) {
+    if lent {
+        replay::put(b"lent ");
+    } else {
+        replay::put(b"session ");
+    }
+    replay::put(name);
+    replay::put(b"\n");
+}
+
+// Loads a session's two disks and runs its calls; no where a disk is refused.
 fn perform(
-    block: &mut [u8; 65536],
+    lent: bool,
+    name: &[u8],
+    image_a: &[u8],
+    image_b: &[u8],
+    calls: &[u8],
     table_a: &mut [u8; 17609],
     bytes_a: &mut [u8; 1048576],
     table_b: &mut [u8; 17609],
@@ -694,18 +761,33 @@ fn perform(
     transfer: &mut [u8; 131072],
     out: &mut [u8; 65536],
 ) -> bool {
-    let Block::Whole(len) = take_block(block) else {
-        return broken();
-    };
-    let calls = buffer::part(block, 0, len);
-    let bench = play(calls, table_a, bytes_a, table_b, bytes_b, transfer, out);
+    headed(lent, name);
+    if !start(image_a, table_a, bytes_a) {
+        return false;
+    }
+    if !start(image_b, table_b, bytes_b) {
+        return false;
+    }
+    let bench = play(
+        lent,
+        calls,
+        table_a,
+        bytes_a,
+        table_b,
+        bytes_b,
+        transfer,
+        out,
+    );
     finish(bench, transfer, table_a, bytes_a, table_b, bytes_b);
     true
 }
 
-// Takes a session's second disk, and runs its calls; no where the list ends inside it.
-fn session(
-    block: &mut [u8; 65536],
+// Runs a session by value, and on wiped buffers over a lent controller; no where a disk is refused.
+fn twice(
+    name: &[u8],
+    image_a: &[u8],
+    image_b: &[u8],
+    calls: &[u8],
     table_a: &mut [u8; 17609],
     bytes_a: &mut [u8; 1048576],
     table_b: &mut [u8; 17609],
@@ -713,19 +795,80 @@ fn session(
     transfer: &mut [u8; 131072],
     out: &mut [u8; 65536],
 ) -> bool {
-    let Block::Whole(len) = take_block(block) else {
-        return broken();
-    };
-    if !start(buffer::part(block, 0, len), table_b, bytes_b) {
+    if !perform(
+        false,
+        name,
+        image_a,
+        image_b,
+        calls,
+        table_a,
+        bytes_a,
+        table_b,
+        bytes_b,
+        transfer,
+        out,
+    ) {
         return false;
     }
-    perform(block, table_a, bytes_a, table_b, bytes_b, transfer, out)
+    wipe(table_a);
+    wipe(bytes_a);
+    wipe(table_b);
+    wipe(bytes_b);
+    wipe(transfer);
+    perform(
+        true,
+        name,
+        image_a,
+        image_b,
+        calls,
+        table_a,
+        bytes_a,
+        table_b,
+        bytes_b,
+        transfer,
+        out,
+    )
+}
+
+// Takes a session's second disk and its calls, and runs it; no where the list ends inside it.
+fn session(
+    name: &[u8],
+    image_a: &[u8],
+    image_b: &mut [u8; 65536],
+    calls: &mut [u8; 65536],
+    table_a: &mut [u8; 17609],
+    bytes_a: &mut [u8; 1048576],
+    table_b: &mut [u8; 17609],
+    bytes_b: &mut [u8; 1048576],
+    transfer: &mut [u8; 131072],
+    out: &mut [u8; 65536],
+) -> bool {
+    let Block::Whole(b) = take_block(image_b) else {
+        return broken();
+    };
+    let Block::Whole(c) = take_block(calls) else {
+        return broken();
+    };
+    twice(
+        name,
+        image_a,
+        buffer::part(image_b, 0, b),
+        buffer::part(calls, 0, c),
+        table_a,
+        bytes_a,
+        table_b,
+        bytes_b,
+        transfer,
+        out,
+    )
 }
 
 // Reads one session and runs it; no where the list ends.
 fn replay(
     name: &mut [u8; 256],
-    block: &mut [u8; 65536],
+    image_a: &mut [u8; 65536],
+    image_b: &mut [u8; 65536],
+    calls: &mut [u8; 65536],
     table_a: &mut [u8; 17609],
     bytes_a: &mut [u8; 1048576],
     table_b: &mut [u8; 17609],
@@ -733,25 +876,30 @@ fn replay(
     transfer: &mut [u8; 131072],
     out: &mut [u8; 65536],
 ) -> bool {
-    match replay::take_record(name, block) {
+    match replay::take_record(name, image_a) {
         replay::Record::End => false,
         replay::Record::Broken => broken(),
-        replay::Record::Whole { letters, len } => {
-            replay::put(b"session ");
-            replay::put(buffer::part(name, 0, letters));
-            replay::put(b"\n");
-            if !start(buffer::part(block, 0, len), table_a, bytes_a) {
-                return false;
-            }
-            session(block, table_a, bytes_a, table_b, bytes_b, transfer, out)
-        }
+        replay::Record::Whole { letters, len } => session(
+            buffer::part(name, 0, letters),
+            buffer::part(image_a, 0, len),
+            image_b,
+            calls,
+            table_a,
+            bytes_a,
+            table_b,
+            bytes_b,
+            transfer,
+            out,
+        ),
     }
 }
 
 // Replays every session.
 fn run(
     name: &mut [u8; 256],
-    block: &mut [u8; 65536],
+    image_a: &mut [u8; 65536],
+    image_b: &mut [u8; 65536],
+    calls: &mut [u8; 65536],
     table_a: &mut [u8; 17609],
     bytes_a: &mut [u8; 1048576],
     table_b: &mut [u8; 17609],
@@ -763,7 +911,9 @@ fn run(
     while 0 < left {
         if !replay(
             name,
-            block,
+            image_a,
+            image_b,
+            calls,
             table_a,
             bytes_a,
             table_b,
@@ -779,7 +929,9 @@ fn run(
 
 fn main() {
     let mut name = [0; 256];
-    let mut block = [0; 65536];
+    let mut image_a = [0; 65536];
+    let mut image_b = [0; 65536];
+    let mut calls = [0; 65536];
     let mut table_a = [0; 17609];
     let mut bytes_a = [0; 1048576];
     let mut table_b = [0; 17609];
@@ -788,7 +940,9 @@ fn main() {
     let mut out = [0; 65536];
     run(
         &mut name,
-        &mut block,
+        &mut image_a,
+        &mut image_b,
+        &mut calls,
         &mut table_a,
         &mut bytes_a,
         &mut table_b,

@@ -4,10 +4,10 @@ use Rattle.ports.proofs.play.Statement.{statement}
 use Rattle.ports.proofs.play.Tie as tie
 
 abbrev Inv-loop : tie.InvT-loop
-Inv-loop calls table-a₀ bytes-a₀ table-b₀ bytes-b₀ transfer₀ out₀ bench₀ stop at₀ table-a bytes-a table-b bytes-b transfer out bench at = Unit
+Inv-loop lent calls table-a₀ bytes-a₀ table-b₀ bytes-b₀ transfer₀ out₀ bench₀ stop at₀ table-a bytes-a table-b bytes-b transfer out bench at = Unit
 
 abbrev μ-loop : tie.MeasureT-loop
-μ-loop calls table-a₀ bytes-a₀ table-b₀ bytes-b₀ transfer₀ out₀ bench₀ stop at₀ table-a bytes-a table-b bytes-b transfer out bench at = stop - at
+μ-loop lent calls table-a₀ bytes-a₀ table-b₀ bytes-b₀ transfer₀ out₀ bench₀ stop at₀ table-a bytes-a table-b bytes-b transfer out bench at = stop - at
 
 new-bench-requires : tie.Need-new-bench-requires Inv-loop μ-loop
 new-bench-requires c κs = search needs

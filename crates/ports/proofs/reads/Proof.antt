@@ -6,16 +6,16 @@ use Rattle.ports.proofs.reads.Statement.{statement}
 use Rattle.ports.proofs.reads.Tie as tie
 
 abbrev Inv-loop : tie.InvT-loop
-Inv-loop times transfer out₀ f₀ k₀ out f k = length out ≡ length out₀
+Inv-loop times lent transfer out₀ f₀ k₀ out f k = length out ≡ length out₀
 
 abbrev μ-loop : tie.MeasureT-loop
-μ-loop times transfer out₀ f₀ k₀ out f k = times - k
+μ-loop times lent transfer out₀ f₀ k₀ out f k = times - k
 
 loop-holds : tie.Need-loop-holds Inv-loop μ-loop
 loop-holds c = search needs
 
-read-step-requires : tie.Need-read-step-requires Inv-loop μ-loop
-read-step-requires c κs = search needs
+read-once-requires : tie.Need-read-once-requires Inv-loop μ-loop
+read-once-requires c κs = search needs
 
 enum-known-byte : tie.Need-enum-known-byte Inv-loop μ-loop
 enum-known-byte c = search needs
@@ -54,7 +54,7 @@ reads-spec =
     Inv-loop
     μ-loop
     loop-holds
-    read-step-requires
+    read-once-requires
     enum-known-byte
     same-length
     returns

@@ -6,19 +6,19 @@ use Rattle.ports.proofs.send_round.Statement.{statement}
 use Rattle.ports.proofs.send_round.Tie as tie
 
 abbrev Inv-loop : tie.InvT-loop
-Inv-loop text table₀ bytes₀ transfer₀ f₀ k₀ table bytes transfer f k = (length table ≡ length table₀) × ((length bytes ≡ length bytes₀) × (length transfer ≡ length transfer₀))
+Inv-loop text lent table₀ bytes₀ transfer₀ f₀ k₀ table bytes transfer f k = (length table ≡ length table₀) × ((length bytes ≡ length bytes₀) × (length transfer ≡ length transfer₀))
 
 abbrev μ-loop : tie.MeasureT-loop
-μ-loop text table₀ bytes₀ transfer₀ f₀ k₀ table bytes transfer f k = length text - k
+μ-loop text lent table₀ bytes₀ transfer₀ f₀ k₀ table bytes transfer f k = length text - k
 
 loop-holds : tie.Need-loop-holds Inv-loop μ-loop
 loop-holds c = search needs
 
-shared-slice-read-write-step : tie.Need-shared-slice-read-write-step Inv-loop μ-loop
-shared-slice-read-write-step c = search needs
+shared-slice-read-write-once : tie.Need-shared-slice-read-write-once Inv-loop μ-loop
+shared-slice-read-write-once c = search needs
 
-write-step-requires : tie.Need-write-step-requires Inv-loop μ-loop
-write-step-requires c κs = search needs
+write-once-requires : tie.Need-write-once-requires Inv-loop μ-loop
+write-once-requires c κs = search needs
 
 enum-told : tie.Need-enum-told Inv-loop μ-loop
 enum-told c = search needs
@@ -66,8 +66,8 @@ send-round-spec =
     Inv-loop
     μ-loop
     loop-holds
-    shared-slice-read-write-step
-    write-step-requires
+    shared-slice-read-write-once
+    write-once-requires
     enum-told
     same-length
     same-length-2

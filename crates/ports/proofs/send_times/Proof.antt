@@ -6,10 +6,10 @@ use Rattle.ports.proofs.send_times.Statement.{statement}
 use Rattle.ports.proofs.send_times.Tie as tie
 
 abbrev Inv-loop : tie.InvT-loop
-Inv-loop text times table₀ bytes₀ transfer₀ f₀ k₀ table bytes transfer f k = (length table ≡ length table₀) × ((length bytes ≡ length bytes₀) × (length transfer ≡ length transfer₀))
+Inv-loop text times lent table₀ bytes₀ transfer₀ f₀ k₀ table bytes transfer f k = (length table ≡ length table₀) × ((length bytes ≡ length bytes₀) × (length transfer ≡ length transfer₀))
 
 abbrev μ-loop : tie.MeasureT-loop
-μ-loop text times table₀ bytes₀ transfer₀ f₀ k₀ table bytes transfer f k = times - k
+μ-loop text times lent table₀ bytes₀ transfer₀ f₀ k₀ table bytes transfer f k = times - k
 
 loop-holds : tie.Need-loop-holds Inv-loop μ-loop
 loop-holds c = search needs

@@ -6,16 +6,16 @@ use Rattle.ports.proofs.statuses.Statement.{statement}
 use Rattle.ports.proofs.statuses.Tie as tie
 
 abbrev Inv-loop : tie.InvT-loop
-Inv-loop times out₀ f₀ k₀ out f k = length out ≡ length out₀
+Inv-loop times lent out₀ f₀ k₀ out f k = length out ≡ length out₀
 
 abbrev μ-loop : tie.MeasureT-loop
-μ-loop times out₀ f₀ k₀ out f k = times - k
+μ-loop times lent out₀ f₀ k₀ out f k = times - k
 
 loop-holds : tie.Need-loop-holds Inv-loop μ-loop
 loop-holds c = search needs
 
-status-step-requires : tie.Need-status-step-requires Inv-loop μ-loop
-status-step-requires c κs = search needs
+status-once-requires : tie.Need-status-once-requires Inv-loop μ-loop
+status-once-requires c κs = search needs
 
 enum-known-byte : tie.Need-enum-known-byte Inv-loop μ-loop
 enum-known-byte c = search needs
@@ -54,7 +54,7 @@ statuses-spec =
     Inv-loop
     μ-loop
     loop-holds
-    status-step-requires
+    status-once-requires
     enum-known-byte
     same-length
     returns
