@@ -30,7 +30,7 @@ pub fn print_fresh(out: &mut impl Write) -> io::Result<()> {
 }
 
 /// The refusal number of an error that the Rust raises, if it has one.
-fn refusal(error: &anyhow::Error) -> Option<u8> {
+pub fn refusal(error: &anyhow::Error) -> Option<u8> {
     if let Some(error) = error.downcast_ref::<io::Error>() {
         return (error.kind() == ErrorKind::UnexpectedEof).then_some(3);
     }
