@@ -21,18 +21,14 @@ pub record Laid (d : List ℕ) (at : ℕ) (text d′ : List ℕ) (next : ℕ) : 
   pub bytes : d′ ≡ over d at text
   pub behind : next ≡ at + length text
 
--- the beginning of a sector's line, before what follows it, and the line of an entry
-unfoldable pub idText : SectorId → List ℕ → List ℕ
-idText i rest =
-    sectorWord ++ (decimal (i .c)
-    ++ (space ++ (decimal (i .h)
-    ++ (space ++ (decimal (i .r)
-    ++ (space ++ (decimal (i .n) ++ rest)))))))
+-- the beginning of a sector's line, and the line of an entry
+unfoldable pub idText : SectorId → List ℕ
+idText i = sectorWord ++ (decimal (i .c) ++ (space ++ (decimal (i .h) ++ (space ++ (decimal (i .r) ++ (space ++ decimal (i .n)))))))
 
 unfoldable pub rowLine : Row → List ℕ
 rowLine row =
     idText (row .id)
-    (space ++ (decimal (row .st1 .bits)
+    ++ (space ++ (decimal (row .st1 .bits)
     ++ (space ++ (decimal (row .st2 .bits)
     ++ (space ++ (decimal (row .stored)
     ++ (space ++ (decimal (copies (row .stored) (row .id .n)) ++ end))))))))

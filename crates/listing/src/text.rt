@@ -9,14 +9,15 @@ use image::Totals;
 use image::Walk;
 ghost use mathlib.Core.Path.{_≡_};
 ghost use Prim.Native.Nat.{_+_, _≤_};
-ghost use mathlib.Core.List.{[], _++_};
+ghost use mathlib.Core.List.{_++_};
 ghost use lib.ListN.{length, drop};
 ghost use Rattle.image.specs.Refusals.{refused};
 ghost use Rattle.listing.specs.Text.{diskWord, kindWord, decimal, copies, trackLines, printedAs};
 ghost use Rattle.listing.specs.Lines.{Laid, idText, rowLine, headLine, totalsLine, rowLines, blockLines, toList, Listable};
 
 // Writes the digits of a number at the end of `digits`, and answers where they begin.
-fn write_digits(digits: &mut [u8; 20], n: usize) -> usize
+fn write_digits(digits: &mut [u8], n: usize) -> usize
+    requires { ⌜ length (now digits) ≡ 20 ⌝ }
     ensures { λ r. ⌜ (r ≤ 20) × (drop r (now (digits .exit)) ≡ decimal n) ⌝ }
 {
     let mut left = n;
@@ -43,9 +44,10 @@ fn put_number(out: &mut [u8], at: usize, n: usize) -> usize
     requires { ⌜ at + length (decimal n) ≤ length (now out) ⌝ }
     ensures { λ r. ⌜ Laid (now (out .entry)) at (decimal n) (now (out .exit)) r ⌝ }
 {
-    let mut digits = [0u8; 20];
-    let from = write_digits(&mut digits, n);
-    put_word(out, at, &digits[from..])
+    let mut space = [0u8; 20];
+    let digits: &mut [u8] = &mut space;
+    let from = write_digits(digits, n);
+    put_word(out, at, buffer::tail(digits, from))
 }
 
 // Lays a word and a number behind it.
@@ -78,8 +80,8 @@ fn copies_of(stored: usize, id: SectorId) -> usize
 
 // Lays the beginning of a sector's line.
 fn put_id(out: &mut [u8], at: usize, id: SectorId) -> usize
-    requires { ⌜ at + length (idText id []) ≤ length (now out) ⌝ }
-    ensures { λ r. ⌜ Laid (now (out .entry)) at (idText id []) (now (out .exit)) r ⌝ }
+    requires { ⌜ at + length (idText id) ≤ length (now out) ⌝ }
+    ensures { λ r. ⌜ Laid (now (out .entry)) at (idText id) (now (out .exit)) r ⌝ }
 {
     let h = put_byte(out, at, b"sector ", id.c);
     let r = put_byte(out, h, b" ", id.h);
