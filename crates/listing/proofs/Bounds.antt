@@ -2,7 +2,7 @@
 use mathlib.Core.Path.{_≡_, refl, sym, ap, subst, _∙_}
 use Prim.Native.Nat.{ℕ, zero, suc, _+_, _-_, _*_, _≤_, _<_}
 use native.Mathlib.Omega.{arith}
-use mathlib.Core.List.{List, [], _∷_, _++_}
+use mathlib.Core.List.{List, [], _++_}
 use lib.ListN.{length, drop, length-append}
 use lib.Seq.{getD-drop}
 use Rattle.image.specs.Refusals.{Result, refused, good, numberOf}
@@ -21,7 +21,7 @@ use Rattle.image.specs.declared.walk.Totals.{Totals}
 use Rattle.image.proofs.Sizes.{size-most}
 use Rattle.image.proofs.Tracks.{sectors-length, track-good}
 use Rattle.image.proofs.Steps.{Moved, Says, says, falls}
-use Rattle.listing.specs.Text.{diskWord, kindWord, copies, decimal, trackLine, sectorLines, trackLines, printedAs}
+use Rattle.listing.specs.Text.{diskWord, kindWord, copies, trackLine, sectorLines, trackLines, printedAs}
 use Rattle.listing.specs.Lines.{rowLine, headLine, totalsLine, rowLines, blockLines}
 use Rattle.listing.proofs.Digits.{byte-digits, word-digits, all-digits, copies-few}
 use Rattle.listing.proofs.Lines.{id-length, row-length, head-length, totals-length, refusal-length}

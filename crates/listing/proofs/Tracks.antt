@@ -4,10 +4,9 @@ use Prim.Native.Nat.{ℕ, zero, suc, _+_, _-_, _≤_, _<_}
 use native.Mathlib.Omega.{arith}
 use mathlib.Core.List.{List, [], _∷_, _++_, append-assoc}
 use lib.ListN.{length, take, drop}
-use Rattle.buffer.specs.Over.{over}
 use Rattle.image.specs.Refusals.{Result, refused, good}
 use Rattle.image.specs.Bytes.{byteAt}
-use Rattle.image.specs.Model.{Sector, Track, Disk}
+use Rattle.image.specs.Model.{Track, Disk}
 use Rattle.image.specs.Dsk.{rowOf, sectorOf, sectorsFrom, storedFrom, trackIn, trackOf, before}
 use Rattle.image.specs.Calls.{headOf, leftOf}
 use Rattle.image.specs.declared.refusal.Refusal.{Refusal}

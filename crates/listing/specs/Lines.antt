@@ -1,7 +1,7 @@
 -- What the private calls that lay a text leave, in terms of what the walk hands out. A reader of the promise need not read this page.
 use Prim.Native.Nat.{ℕ, zero, suc, _+_, _≤_}
 use mathlib.Core.Path.{_≡_}
-use mathlib.Core.List.{List, [], _∷_, _++_}
+use mathlib.Core.List.{List, [], _++_}
 use lib.ListN.{length}
 use Rattle.buffer.specs.Over.{over}
 use Rattle.image.specs.Refusals.{Result, refused, good}

@@ -1,7 +1,7 @@
 use mathlib.Core.Path.{refl}
 use Prim.Native.Nat.{_-_}
 use Rattle.image.specs.declared.walk.Step.the-variants as step
-use Rattle.image.proofs.Steps.{Says, says-of, falls}
+use Rattle.image.proofs.Steps.{says-of, falls}
 use Rattle.listing.proofs.Tracks.{Walking, walking-start, walking-never, walking-end, walking-absent, walking-room, walking-track}
 use borrow.Author.Needs.{needs}
 use Rattle.listing.proofs.text.put_tracks.Statement.{statement}

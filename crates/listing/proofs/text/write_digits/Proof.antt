@@ -2,7 +2,6 @@
 use mathlib.Core.Path.{sym, _∙_}
 use lib.ListN.{length-set}
 use Prim.Native.Nat.{_+_, _-_}
-use native.Mathlib.Omega.{arith}
 use borrow.Author.Needs.{needs}
 use Rattle.listing.proofs.Digits.{Writing, writing-start, writing-again, writing-done}
 use Rattle.listing.proofs.text.write_digits.Statement.{statement}
