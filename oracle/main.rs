@@ -4,7 +4,9 @@
 //! a list of scripts that change and read disks, `oracle outcomes` reads such a
 //! stream and prints what the Rust does. `oracle sessions` writes a list of
 //! sessions at the controller's ports, `oracle shown` reads such a stream and
-//! prints what the Rust's controller answers.
+//! prints what the Rust's controller answers. `oracle files FOLDER` writes each of
+//! the images as a file, `oracle list` reads one image and prints the listing of
+//! the disk that the Rust loads from it.
 
 mod answers;
 mod capacities;
@@ -12,6 +14,7 @@ mod dsk;
 mod dump;
 mod errors;
 mod images;
+mod listing;
 mod load;
 mod noise;
 mod outcomes;
@@ -23,9 +26,10 @@ mod shown;
 mod stream;
 
 use std::ffi::OsString;
-use std::fmt;
 use std::io::{self, BufWriter, Read, Write};
+use std::path::Path;
 use std::process::ExitCode;
+use std::{fmt, fs};
 
 /// Why the oracle stops before its end.
 pub enum Failure {
@@ -54,7 +58,7 @@ impl fmt::Display for Failure {
             Failure::Usage => {
                 write!(
                     f,
-                    "usage: oracle images | answers | scripts | outcomes | sessions | shown"
+                    "usage: oracle images | answers | scripts | outcomes | sessions | shown | files FOLDER | list"
                 )
             }
             Failure::Stream(fault) => write!(f, "the stream is broken: {fault}"),
@@ -79,6 +83,8 @@ fn main() -> ExitCode {
         [word] if word == "outcomes" => print_outcomes(),
         [word] if word == "sessions" => print_sessions(),
         [word] if word == "shown" => print_shown(),
+        [word, folder] if word == "files" => write_files(folder.as_ref()),
+        [word] if word == "list" => print_listing(),
         _ => Err(Failure::Usage),
     };
     match done {
@@ -141,6 +147,24 @@ fn print_shown() -> Result<(), Failure> {
     for session in sessions.iter().take_while(|session| !session.is_refusal()) {
         shown::print(session, &mut out)?;
     }
+    Ok(out.flush()?)
+}
+
+/// Writes each image of the list as `NAME.dsk` into the folder.
+fn write_files(folder: &Path) -> Result<(), Failure> {
+    for record in images::list() {
+        fs::write(
+            folder.join(record.name()).with_extension("dsk"),
+            record.image(),
+        )?;
+    }
+    Ok(())
+}
+
+fn print_listing() -> Result<(), Failure> {
+    let image = read_stream()?;
+    let mut out = BufWriter::new(io::stdout().lock());
+    listing::print(&image, &mut out)?;
     Ok(out.flush()?)
 }
 

@@ -1,2 +1,3 @@
--- All of it is for a reader to believe: `Text` is what the listing program prints.
+-- `Text` is what the listing program prints, and all that a reader has to believe.
 pub mod Text
+pub mod Lines

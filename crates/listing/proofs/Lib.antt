@@ -1,0 +1,5 @@
+pub mod Digits
+pub mod Lines
+pub mod Tracks
+pub mod Bounds
+pub mod Listings

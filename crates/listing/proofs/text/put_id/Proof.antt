@@ -1,0 +1,50 @@
+use native.Mathlib.Omega.{arith}
+use Rattle.listing.proofs.Lines.{id-length, id-laid}
+use borrow.Author.Needs.{needs}
+use Rattle.listing.proofs.text.put_id.Statement.{statement}
+use Rattle.listing.proofs.text.put_id.Tie as tie
+
+slice-aggregate-put-byte : tie.Need-slice-aggregate-put-byte
+slice-aggregate-put-byte c = search needs
+
+put-byte-requires : tie.Need-put-byte-requires
+put-byte-requires c κs = omega (arith, id-length (c .before .before .before .args .id))
+
+slice-aggregate-put-byte-2 : tie.Need-slice-aggregate-put-byte-2
+slice-aggregate-put-byte-2 c = search needs
+
+put-byte-requires-2 : tie.Need-put-byte-requires-2
+put-byte-requires-2 c κs = omega (arith, id-length (c .before .before .before .before .before .before .before .before .args .id))
+
+slice-aggregate-put-byte-3 : tie.Need-slice-aggregate-put-byte-3
+slice-aggregate-put-byte-3 c = search needs
+
+put-byte-requires-3 : tie.Need-put-byte-requires-3
+put-byte-requires-3 c κs = omega (arith, id-length (c .before .before .before .before .before .before .before .before .before .before .before .before .before .args .id))
+
+slice-aggregate-put-byte-4 : tie.Need-slice-aggregate-put-byte-4
+slice-aggregate-put-byte-4 c = search needs
+
+put-byte-requires-4 : tie.Need-put-byte-requires-4
+put-byte-requires-4 c κs = omega (arith, id-length (c .before .before .before .before .before .before .before .before .before .before .before .before .before .before .before .before .before .before .args .id))
+
+same-length : tie.Need-same-length
+same-length c = search needs
+
+returns : tie.Need-returns
+returns c = id-laid _ (c .before .before .before .before .before .before .before .before .before .before .before .before .before .before .before .before .before .before .before .before .before .pre) (c .before .before .before .before .before .before .before .before .before .before .before .before .before .before .before .before .before .put-byte .ensures) (c .before .before .before .before .before .before .before .before .before .before .before .before .put-byte2 .ensures) (c .before .before .before .before .before .before .before .put-byte3 .ensures) (c .before .before .put-byte4 .ensures)
+
+pub put-id-spec : {M : Type 1} → statement M
+put-id-spec =
+    tie.close
+    (tie.spec
+    slice-aggregate-put-byte
+    put-byte-requires
+    slice-aggregate-put-byte-2
+    put-byte-requires-2
+    slice-aggregate-put-byte-3
+    put-byte-requires-3
+    slice-aggregate-put-byte-4
+    put-byte-requires-4
+    same-length
+    returns)

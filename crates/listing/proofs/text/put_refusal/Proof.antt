@@ -1,0 +1,42 @@
+use native.Mathlib.Omega.{arith}
+use mathlib.Core.Path.{ap}
+use Prim.Native.Nat.{ℕ}
+use lib.ListN.{length}
+use Rattle.listing.specs.Text.{decimal}
+use Rattle.listing.proofs.Lines.{refusal-length, refusal-laid}
+use borrow.Author.Needs.{needs}
+use Rattle.listing.proofs.text.put_refusal.Statement.{statement}
+use Rattle.listing.proofs.text.put_refusal.Tie as tie
+
+slice-aggregate-put-byte : tie.Need-slice-aggregate-put-byte
+slice-aggregate-put-byte c = search needs
+
+number-requires : tie.Need-number-requires
+number-requires c κs = search needs
+
+put-byte-requires : tie.Need-put-byte-requires
+put-byte-requires c κs = omega (arith, refusal-length (c .before .before .before .before .args .why), ap (λ (k : ℕ). length (decimal k)) (c .number .ensures))
+
+slice-aggregate-put-word : tie.Need-slice-aggregate-put-word
+slice-aggregate-put-word c = search needs
+
+put-word-requires : tie.Need-put-word-requires
+put-word-requires c κs = omega (arith, refusal-length (c .before .before .before .before .before .before .before .before .before .args .why), ap (λ (k : ℕ). length (decimal k)) (c .before .before .before .before .before .number .ensures))
+
+same-length : tie.Need-same-length
+same-length c = search needs
+
+returns : tie.Need-returns
+returns c = refusal-laid (c .before .before .before .before .before .before .before .before .before .before .before .before .args .why) (c .before .before .before .before .before .before .before .before .number .result) (c .before .before .before .before .before .before .before .before .number .ensures) (omega arith) (c .before .before .before .before .before .before .before .put-byte .ensures) (c .before .before .put-word .ensures)
+
+pub put-refusal-spec : {M : Type 1} → statement M
+put-refusal-spec =
+    tie.close
+    (tie.spec
+    slice-aggregate-put-byte
+    number-requires
+    put-byte-requires
+    slice-aggregate-put-word
+    put-word-requires
+    same-length
+    returns)

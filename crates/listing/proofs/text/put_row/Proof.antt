@@ -1,0 +1,74 @@
+use native.Mathlib.Omega.{arith}
+use mathlib.Core.Path.{ap}
+use Prim.Native.Nat.{ℕ}
+use lib.ListN.{length}
+use Rattle.listing.specs.Text.{decimal}
+use Rattle.listing.proofs.Lines.{row-length, row-laid}
+use borrow.Author.Needs.{needs}
+use Rattle.listing.proofs.text.put_row.Statement.{statement}
+use Rattle.listing.proofs.text.put_row.Tie as tie
+
+cast-stored : tie.Need-cast-stored
+cast-stored c = search needs
+
+put-id-requires : tie.Need-put-id-requires
+put-id-requires c κs = omega (arith, row-length (c .before .before .before .before .before .before .args .row))
+
+slice-aggregate-put-byte : tie.Need-slice-aggregate-put-byte
+slice-aggregate-put-byte c = search needs
+
+put-byte-requires : tie.Need-put-byte-requires
+put-byte-requires c κs = omega (arith, row-length (c .before .before .before .before .before .before .before .before .before .before .before .args .row))
+
+slice-aggregate-put-byte-2 : tie.Need-slice-aggregate-put-byte-2
+slice-aggregate-put-byte-2 c = search needs
+
+put-byte-requires-2 : tie.Need-put-byte-requires-2
+put-byte-requires-2 c κs = omega (arith, row-length (c .before .before .before .before .before .before .before .before .before .before .before .before .before .before .before .before .args .row))
+
+slice-aggregate-put-field : tie.Need-slice-aggregate-put-field
+slice-aggregate-put-field c = search needs
+
+put-field-requires : tie.Need-put-field-requires
+put-field-requires c κs = omega (arith, row-length (c .before .before .before .before .before .before .before .before .before .before .before .before .before .before .before .before .before .before .before .before .before .args .row))
+
+slice-aggregate-put-field-2 : tie.Need-slice-aggregate-put-field-2
+slice-aggregate-put-field-2 c = search needs
+
+copies-of-requires : tie.Need-copies-of-requires
+copies-of-requires c κs = search needs
+
+put-field-requires-2 : tie.Need-put-field-requires-2
+put-field-requires-2 c κs = omega (arith, row-length (c .before .before .before .before .before .before .before .before .before .before .before .before .before .before .before .before .before .before .before .before .before .before .before .before .before .before .before .args .row), ap (λ (k : ℕ). length (decimal k)) (c .copies-of .ensures))
+
+slice-aggregate-put-word : tie.Need-slice-aggregate-put-word
+slice-aggregate-put-word c = search needs
+
+put-word-requires : tie.Need-put-word-requires
+put-word-requires c κs = omega (arith, row-length (c .before .before .before .before .before .before .before .before .before .before .before .before .before .before .before .before .before .before .before .before .before .before .before .before .before .before .before .before .before .before .before .before .args .row), ap (λ (k : ℕ). length (decimal k)) (c .before .before .before .before .before .copies-of .ensures), c .before .before .before .before .before .before .before .before .before .before .before .before .before .before .before .before .before .before .before .before .before .before .before .before .before .before .before .before .before .before .before .before .pre, c .before .before .before .before .before .before .before .before .before .before .before .before .before .before .before .before .before .before .before .before .before .before .before .before .before .put-id .ensures .behind, c .before .before .before .before .before .before .before .before .before .before .before .before .before .before .before .before .before .before .before .before .put-byte .ensures .behind, c .before .before .before .before .before .before .before .before .before .before .before .before .before .before .before .put-byte2 .ensures .behind, c .before .before .before .before .before .before .before .before .before .before .put-field .ensures .behind, c .before .before .before .before .put-field2 .ensures .behind)
+
+same-length : tie.Need-same-length
+same-length c = search needs
+
+returns : tie.Need-returns
+returns c = row-laid _ _ (c .before .before .before .before .before .before .before .before .copies-of .ensures) (c .before .before .before .before .before .before .before .before .before .before .before .before .before .before .before .before .before .before .before .before .before .before .before .before .before .before .before .before .before .before .before .before .before .before .before .pre) (c .before .before .before .before .before .before .before .before .before .before .before .before .before .before .before .before .before .before .before .before .before .before .before .before .before .before .before .before .put-id .ensures) (c .before .before .before .before .before .before .before .before .before .before .before .before .before .before .before .before .before .before .before .before .before .before .before .put-byte .ensures) (c .before .before .before .before .before .before .before .before .before .before .before .before .before .before .before .before .before .before .put-byte2 .ensures) (c .before .before .before .before .before .before .before .before .before .before .before .before .before .put-field .ensures) (c .before .before .before .before .before .before .before .put-field2 .ensures) (c .before .before .put-word .ensures)
+
+pub put-row-spec : {M : Type 1} → statement M
+put-row-spec =
+    tie.close
+    (tie.spec
+    cast-stored
+    put-id-requires
+    slice-aggregate-put-byte
+    put-byte-requires
+    slice-aggregate-put-byte-2
+    put-byte-requires-2
+    slice-aggregate-put-field
+    put-field-requires
+    slice-aggregate-put-field-2
+    copies-of-requires
+    put-field-requires-2
+    slice-aggregate-put-word
+    put-word-requires
+    same-length
+    returns)

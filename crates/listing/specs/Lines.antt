@@ -1,0 +1,72 @@
+-- What the private calls that lay a text leave, in terms of what the walk hands out. A reader of the promise need not read this page.
+use Prim.Native.Nat.{ℕ, zero, suc, _+_, _≤_}
+use mathlib.Core.Path.{_≡_}
+use mathlib.Core.List.{List, [], _++_}
+use lib.ListN.{length}
+use Rattle.buffer.specs.Over.{over}
+use Rattle.image.specs.Refusals.{Result, refused, good}
+use Rattle.image.specs.Model.{Disk}
+use Rattle.image.specs.Dsk.{rowOf}
+use Rattle.image.specs.Calls.{leftOf}
+use Rattle.image.specs.declared.id.SectorId.{SectorId}
+use Rattle.image.specs.declared.walk.Kind.{Kind}
+use Rattle.image.specs.declared.walk.Walk.{Walk}
+use Rattle.image.specs.declared.walk.Head.{Head}
+use Rattle.image.specs.declared.walk.Row.{Row}
+use Rattle.image.specs.declared.walk.Totals.{Totals}
+use Rattle.listing.specs.Text.{diskWord, tracksWord, sectorsWord, bytesWord, trackWord, gapWord, fillerWord, sectorWord, space, end, kindWord, decimal, copies, trackLines}
+
+-- a text was laid from a place on, and the place behind it answered
+pub record Laid (d : List ℕ) (at : ℕ) (text d′ : List ℕ) (next : ℕ) : Type 0 where
+  pub bytes : d′ ≡ over d at text
+  pub behind : next ≡ at + length text
+
+-- the beginning of a sector's line, and the line of an entry
+unfoldable pub idText : SectorId → List ℕ
+idText i = sectorWord ++ (decimal (i .c) ++ (space ++ (decimal (i .h) ++ (space ++ (decimal (i .r) ++ (space ++ decimal (i .n)))))))
+
+unfoldable pub rowLine : Row → List ℕ
+rowLine row =
+    idText (row .id)
+    ++ (space ++ (decimal (row .st1 .bits)
+    ++ (space ++ (decimal (row .st2 .bits)
+    ++ (space ++ (decimal (row .stored)
+    ++ (space ++ (decimal (copies (row .stored) (row .id .n)) ++ end))))))))
+
+-- a track's line by what was read of it, and a disk's by what was counted
+unfoldable pub headLine : Head → List ℕ
+headLine h =
+    trackWord ++ (decimal (h .cylinder)
+    ++ (space ++ (decimal (h .side)
+    ++ (sectorsWord ++ (decimal (h .sectors)
+    ++ (gapWord ++ (decimal (h .gap)
+    ++ (fillerWord ++ (decimal (h .filler) ++ end)))))))))
+
+unfoldable pub totalsLine : Totals → List ℕ
+totalsLine n =
+    diskWord ++ (kindWord (n .kind)
+    ++ (tracksWord ++ (decimal (n .tracks)
+    ++ (sectorsWord ++ (decimal (n .sectors)
+    ++ (bytesWord ++ (decimal (n .bytes) ++ end)))))))
+
+-- the lines of so many entries of a track block's sector list, from entry k on
+unfoldable pub rowLines : Kind → List ℕ → ℕ → ℕ → List ℕ
+rowLines kind b k zero = []
+rowLines kind b k (suc left) = rowLine (rowOf kind b k) ++ rowLines kind b (k + 1) left
+
+-- the lines of a block's track
+abbrev pub blockLines : Kind → List ℕ → Head → List ℕ
+blockLines kind b h = headLine h ++ rowLines kind b 0 (h .sectors)
+
+-- the disk of a good result, and the tracks that a walk has still to hand out, read as good before
+abbrev pub theDisk : Result Disk → Disk
+theDisk (refused why) = []
+theDisk (good d) = d
+
+abbrev pub toList : List ℕ → Walk → Disk
+toList b w = theDisk (leftOf b w)
+
+-- a walk whose tracks are good and whose lines find room from a place on
+pub record Listable (b : List ℕ) (w : Walk) (at room : ℕ) : Type 0 where
+  pub whole : leftOf b w ≡ good (toList b w)
+  pub lines : at + length (trackLines (toList b w)) ≤ room
