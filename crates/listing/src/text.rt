@@ -1,4 +1,4 @@
-// Laying a listing's text into a slice, line by line. Each function lays its text from a place on and answers the place behind it.
+// A listing's text, laid into a slice: each function lays its part from a place on and answers the place behind it.
 use image::Head;
 use image::Kind;
 use image::Refusal;
@@ -32,6 +32,7 @@ fn write_digits(digits: &mut [u8], n: usize) -> usize
     at
 }
 
+// Lays bytes as they are.
 fn put_word(out: &mut [u8], at: usize, word: &[u8]) -> usize
     requires { ⌜ at + length (now word) ≤ length (now out) ⌝ }
     ensures { λ r. ⌜ Laid (now (out .entry)) at (now (word .entry)) (now (out .exit)) r ⌝ }
@@ -40,6 +41,7 @@ fn put_word(out: &mut [u8], at: usize, word: &[u8]) -> usize
     at + word.len()
 }
 
+// Lays a number in decimal.
 fn put_number(out: &mut [u8], at: usize, n: usize) -> usize
     requires { ⌜ at + length (decimal n) ≤ length (now out) ⌝ }
     ensures { λ r. ⌜ Laid (now (out .entry)) at (decimal n) (now (out .exit)) r ⌝ }

@@ -26,10 +26,18 @@ enum-known-totals : tie.Need-enum-known-totals
 enum-known-totals c = search needs
 
 list-requires : tie.Need-list-requires
-list-requires c κs = (c .before .before .before .before .before .if1 .left, sym (c .before .before .totals .given .1) ∙ c .before .before .before .before .survey .ensures)
+list-requires c κs =
+    let d = c .before .before in
+    let e = d .before .before in
+    let f = e .before in
+    (f .if1 .left, sym (d .totals .given .1) ∙ e .survey .ensures)
 
 returns-2 : tie.Need-returns-2
-returns-2 c = told _ _ (unread-refused _ (c .before .before .before .before .before .before .if1 .left) _ (sym (c .before .before .before .why .given .1) ∙ c .before .before .before .before .before .survey .ensures)) (c .put-refusal2 .ensures)
+returns-2 c =
+    let d = c .before .before .before in
+    let e = d .before .before in
+    let f = e .before in
+    told _ _ (unread-refused _ (f .if1 .left) _ (sym (d .why .given .1) ∙ e .survey .ensures)) (c .put-refusal2 .ensures)
 
 returns-3 : tie.Need-returns-3
 returns-3 c = told _ _ refl (c .list .ensures)

@@ -35,7 +35,13 @@ same-length : tie.Need-same-length
 same-length c = search needs
 
 returns : tie.Need-returns
-returns c = totals-laid _ (omega arith) (c .before .before .before .before .before .before .before .before .before .before .before .before .before .before .before .before .before .before .before .before .before .before .put-kind .ensures) (c .before .before .before .before .before .before .before .before .before .before .before .before .before .before .before .before .before .put-field .ensures) (c .before .before .before .before .before .before .before .before .before .before .before .before .put-field2 .ensures) (c .before .before .before .before .before .before .before .put-field3 .ensures) (c .before .before .put-word .ensures)
+returns c =
+    let d = c .before .before in
+    let e = d .before .before .before .before .before in
+    let f = e .before .before .before .before .before in
+    let g = f .before .before .before .before .before in
+    let h = g .before .before .before .before .before in
+    totals-laid _ (omega arith) (h .put-kind .ensures) (g .put-field .ensures) (f .put-field2 .ensures) (e .put-field3 .ensures) (d .put-word .ensures)
 
 pub put-disk-spec : {M : Type 1} → statement M
 put-disk-spec =

@@ -44,7 +44,15 @@ same-length : tie.Need-same-length
 same-length c = search needs
 
 returns : tie.Need-returns
-returns c = head-laid _ (c .before .before .before .before .before .before .before .before .before .before .before .before .before .before .before .before .before .before .before .before .before .before .before .before .before .before .before .before .before .before .before .pre) (c .before .before .before .before .before .before .before .before .before .before .before .before .before .before .before .before .before .before .before .before .before .before .before .before .before .before .before .put-byte .ensures) (c .before .before .before .before .before .before .before .before .before .before .before .before .before .before .before .before .before .before .before .before .before .before .put-byte2 .ensures) (c .before .before .before .before .before .before .before .before .before .before .before .before .before .before .before .before .before .put-byte3 .ensures) (c .before .before .before .before .before .before .before .before .before .before .before .before .put-byte4 .ensures) (c .before .before .before .before .before .before .before .put-byte5 .ensures) (c .before .before .put-word .ensures)
+returns c =
+    let d = c .before .before in
+    let e = d .before .before .before .before .before in
+    let f = e .before .before .before .before .before in
+    let g = f .before .before .before .before .before in
+    let h = g .before .before .before .before .before in
+    let i = h .before .before .before .before .before in
+    let j = i .before .before .before .before in
+    head-laid _ (j .pre) (i .put-byte .ensures) (h .put-byte2 .ensures) (g .put-byte3 .ensures) (f .put-byte4 .ensures) (e .put-byte5 .ensures) (d .put-word .ensures)
 
 pub put-head-spec : {M : Type 1} → statement M
 put-head-spec =

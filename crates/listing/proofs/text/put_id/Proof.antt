@@ -32,7 +32,13 @@ same-length : tie.Need-same-length
 same-length c = search needs
 
 returns : tie.Need-returns
-returns c = id-laid _ (c .before .before .before .before .before .before .before .before .before .before .before .before .before .before .before .before .before .before .before .before .before .pre) (c .before .before .before .before .before .before .before .before .before .before .before .before .before .before .before .before .before .put-byte .ensures) (c .before .before .before .before .before .before .before .before .before .before .before .before .put-byte2 .ensures) (c .before .before .before .before .before .before .before .put-byte3 .ensures) (c .before .before .put-byte4 .ensures)
+returns c =
+    let d = c .before .before in
+    let e = d .before .before .before .before .before in
+    let f = e .before .before .before .before .before in
+    let g = f .before .before .before .before .before in
+    let h = g .before .before .before .before in
+    id-laid _ (h .pre) (g .put-byte .ensures) (f .put-byte2 .ensures) (e .put-byte3 .ensures) (d .put-byte4 .ensures)
 
 pub put-id-spec : {M : Type 1} → statement M
 put-id-spec =

@@ -22,7 +22,11 @@ same-length : tie.Need-same-length
 same-length c = search needs
 
 returns : tie.Need-returns
-returns c = renamed _ _ (c .before .before .before .before .tail .ensures ∙ c .before .before .before .before .before .before .before .before .before .write-digits .ensures .1) (c .before .before .before .put-word .ensures)
+returns c =
+    let d = c .before .before .before in
+    let e = d .before in
+    let f = e .before .before .before .before .before in
+    renamed _ _ (e .tail .ensures ∙ f .write-digits .ensures .1) (d .put-word .ensures)
 
 pub put-number-spec : {M : Type 1} → statement M
 put-number-spec =

@@ -21,13 +21,21 @@ slice-aggregate-put-word : tie.Need-slice-aggregate-put-word
 slice-aggregate-put-word c = search needs
 
 put-word-requires : tie.Need-put-word-requires
-put-word-requires c κs = omega (arith, refusal-length (c .before .before .before .before .before .before .before .before .before .args .why), ap (λ (k : ℕ). length (decimal k)) (c .before .before .before .before .before .number .ensures))
+put-word-requires c κs =
+    let d = c .before .before .before .before .before in
+    let e = d .before .before .before .before in
+    omega (arith, refusal-length (e .args .why), ap (λ (k : ℕ). length (decimal k)) (d .number .ensures))
 
 same-length : tie.Need-same-length
 same-length c = search needs
 
 returns : tie.Need-returns
-returns c = refusal-laid (c .before .before .before .before .before .before .before .before .before .before .before .before .args .why) (c .before .before .before .before .before .before .before .before .number .result) (c .before .before .before .before .before .before .before .before .number .ensures) (omega arith) (c .before .before .before .before .before .before .before .put-byte .ensures) (c .before .before .put-word .ensures)
+returns c =
+    let d = c .before .before in
+    let e = d .before .before .before .before .before in
+    let f = e .before in
+    let g = f .before .before .before .before in
+    refusal-laid (g .args .why) (f .number .result) (f .number .ensures) (omega arith) (e .put-byte .ensures) (d .put-word .ensures)
 
 pub put-refusal-spec : {M : Type 1} → statement M
 put-refusal-spec =

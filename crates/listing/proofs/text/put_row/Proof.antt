@@ -45,13 +45,30 @@ slice-aggregate-put-word : tie.Need-slice-aggregate-put-word
 slice-aggregate-put-word c = search needs
 
 put-word-requires : tie.Need-put-word-requires
-put-word-requires c κs = omega (arith, row-length (c .before .before .before .before .before .before .before .before .before .before .before .before .before .before .before .before .before .before .before .before .before .before .before .before .before .before .before .before .before .before .before .before .args .row), ap (λ (k : ℕ). length (decimal k)) (c .before .before .before .before .before .copies-of .ensures), c .before .before .before .before .before .before .before .before .before .before .before .before .before .before .before .before .before .before .before .before .before .before .before .before .before .before .before .before .before .before .before .before .pre, c .before .before .before .before .before .before .before .before .before .before .before .before .before .before .before .before .before .before .before .before .before .before .before .before .before .put-id .ensures .behind, c .before .before .before .before .before .before .before .before .before .before .before .before .before .before .before .before .before .before .before .before .put-byte .ensures .behind, c .before .before .before .before .before .before .before .before .before .before .before .before .before .before .before .put-byte2 .ensures .behind, c .before .before .before .before .before .before .before .before .before .before .put-field .ensures .behind, c .before .before .before .before .put-field2 .ensures .behind)
+put-word-requires c κs =
+    let d = c .before .before .before .before in
+    let e = d .before in
+    let f = e .before .before .before .before .before in
+    let g = f .before .before .before .before .before in
+    let h = g .before .before .before .before .before in
+    let i = h .before .before .before .before .before in
+    let j = i .before .before .before .before .before .before .before in
+    omega (arith, row-length (j .args .row), ap (λ (k : ℕ). length (decimal k)) (e .copies-of .ensures), j .pre, i .put-id .ensures .behind, h .put-byte .ensures .behind, g .put-byte2 .ensures .behind, f .put-field .ensures .behind, d .put-field2 .ensures .behind)
 
 same-length : tie.Need-same-length
 same-length c = search needs
 
 returns : tie.Need-returns
-returns c = row-laid _ _ (c .before .before .before .before .before .before .before .before .copies-of .ensures) (c .before .before .before .before .before .before .before .before .before .before .before .before .before .before .before .before .before .before .before .before .before .before .before .before .before .before .before .before .before .before .before .before .before .before .before .pre) (c .before .before .before .before .before .before .before .before .before .before .before .before .before .before .before .before .before .before .before .before .before .before .before .before .before .before .before .before .put-id .ensures) (c .before .before .before .before .before .before .before .before .before .before .before .before .before .before .before .before .before .before .before .before .before .before .before .put-byte .ensures) (c .before .before .before .before .before .before .before .before .before .before .before .before .before .before .before .before .before .before .put-byte2 .ensures) (c .before .before .before .before .before .before .before .before .before .before .before .before .before .put-field .ensures) (c .before .before .before .before .before .before .before .put-field2 .ensures) (c .before .before .put-word .ensures)
+returns c =
+    let d = c .before .before in
+    let e = d .before .before .before .before .before in
+    let f = e .before in
+    let g = f .before .before .before .before .before in
+    let h = g .before .before .before .before .before in
+    let i = h .before .before .before .before .before in
+    let j = i .before .before .before .before .before in
+    let l = j .before .before .before .before .before .before .before in
+    row-laid _ _ (f .copies-of .ensures) (l .pre) (j .put-id .ensures) (i .put-byte .ensures) (h .put-byte2 .ensures) (g .put-field .ensures) (e .put-field2 .ensures) (d .put-word .ensures)
 
 pub put-row-spec : {M : Type 1} → statement M
 put-row-spec =

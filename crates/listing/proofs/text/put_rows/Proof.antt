@@ -20,7 +20,11 @@ sector-row-requires : tie.Need-sector-row-requires Inv-loop μ-loop
 sector-row-requires c κs = search needs
 
 put-row-requires : tie.Need-put-row-requires Inv-loop μ-loop
-put-row-requires c κs = rows-room _ _ _ _ _ (c .before .before .before .before .before .before .pre) _ _ _ (c .before .before .before .loop .inv .1) (c .before .before .loop-test .taken) _ (c .sector-row .ensures)
+put-row-requires c κs =
+    let d = c .before .before in
+    let e = d .before in
+    let f = e .before .before .before in
+    rows-room _ _ _ _ _ (f .pre) _ _ _ (e .loop .inv .1) (d .loop-test .taken) _ (c .sector-row .ensures)
 
 add-k : tie.Need-add-k Inv-loop μ-loop
 add-k c = search needs
@@ -29,7 +33,13 @@ loop-less : tie.Need-loop-less Inv-loop μ-loop
 loop-less c = search needs
 
 loop-again : tie.Need-loop-again Inv-loop μ-loop
-loop-again c = (omega arith, rows-again _ _ _ _ _ (c .before .before .before .before .before .before .before .before .before .pre) _ _ _ (c .before .before .before .before .before .before .loop .inv .1) (c .before .before .before .before .before .loop-test .taken) _ (c .before .before .before .sector-row .ensures) _ _ (c .before .before .put-row .ensures))
+loop-again c =
+    let d = c .before .before in
+    let e = d .before in
+    let f = e .before .before in
+    let g = f .before in
+    let h = g .before .before .before in
+    (omega arith, rows-again _ _ _ _ _ (h .pre) _ _ _ (g .loop .inv .1) (f .loop-test .taken) _ (e .sector-row .ensures) _ _ (d .put-row .ensures))
 
 same-length : tie.Need-same-length Inv-loop μ-loop
 same-length c = c .before .loop .inv .1 .same

@@ -16,7 +16,11 @@ same-length : tie.Need-same-length
 same-length c = search needs
 
 returns : tie.Need-returns
-returns c = both _ _ (c .before .before .before .before .before .before .before .before .before .before .pre) (c .before .before .before .before .before .before .put-head .ensures) (λ m. c .before .before .put-rows .ensures)
+returns c =
+    let d = c .before .before in
+    let e = d .before .before .before .before in
+    let f = e .before .before .before .before in
+    both _ _ (f .pre) (e .put-head .ensures) (λ m. d .put-rows .ensures)
 
 pub put-track-spec : {M : Type 1} → statement M
 put-track-spec = tie.close (tie.spec put-head-requires put-rows-requires same-length returns)

@@ -26,7 +26,10 @@ same-length : tie.Need-same-length Inv-loop μ-loop
 same-length c = c .before .before .before .loop .inv .left .same
 
 returns : tie.Need-returns Inv-loop μ-loop
-returns c = absurd (walking-never _ _ _ _ _ _ _ _ (c .before .before .before .loop .inv) _ (says-of _ _ _ _ (c .before .before .step .ensures) (c .enum-told .given .1)))
+returns c =
+    let d = c .before .before in
+    let e = d .before in
+    absurd (walking-never _ _ _ _ _ _ _ _ (e .loop .inv) _ (says-of _ _ _ _ (d .step .ensures) (c .enum-told .given .1)))
 
 enum-told-2 : tie.Need-enum-told-2 Inv-loop μ-loop
 enum-told-2 c = search needs
@@ -35,7 +38,10 @@ same-length-2 : tie.Need-same-length-2 Inv-loop μ-loop
 same-length-2 c = c .before .before .before .loop .inv .left .same
 
 returns-2 : tie.Need-returns-2 Inv-loop μ-loop
-returns-2 c = walking-end _ _ _ _ _ _ _ _ (c .before .before .before .loop .inv) (says-of _ _ _ _ (c .before .before .step .ensures) (c .enum-told2 .given .1))
+returns-2 c =
+    let d = c .before .before in
+    let e = d .before in
+    walking-end _ _ _ _ _ _ _ _ (e .loop .inv) (says-of _ _ _ _ (d .step .ensures) (c .enum-told2 .given .1))
 
 enum-known-rest : tie.Need-enum-known-rest Inv-loop μ-loop
 enum-known-rest c = search needs
@@ -44,7 +50,10 @@ loop-less : tie.Need-loop-less Inv-loop μ-loop
 loop-less c = falls _ _ (says-of _ _ _ (step.Absent _) (c .before .before .before .step .ensures) (c .before .rest .given .1) .0)
 
 loop-again : tie.Need-loop-again Inv-loop μ-loop
-loop-again c = walking-absent _ _ _ _ _ _ _ _ (c .before .before .before .before .loop .inv) _ (says-of _ _ _ _ (c .before .before .before .step .ensures) (c .before .rest .given .1))
+loop-again c =
+    let d = c .before .before .before in
+    let e = d .before in
+    walking-absent _ _ _ _ _ _ _ _ (e .loop .inv) _ (says-of _ _ _ _ (d .step .ensures) (c .before .rest .given .1))
 
 enum-known-head : tie.Need-enum-known-head Inv-loop μ-loop
 enum-known-head c = search needs
@@ -53,13 +62,28 @@ block-requires : tie.Need-block-requires Inv-loop μ-loop
 block-requires c κs = search needs
 
 put-track-requires : tie.Need-put-track-requires Inv-loop μ-loop
-put-track-requires c κs = walking-room _ _ _ _ _ _ _ _ (c .before .before .before .before .before .before .loop .inv) (c .before .before .before .before .before .before .before .before .before .pre .lines) _ _ (says-of _ _ _ (step.Track _ _) (c .before .before .before .before .before .step .ensures) (c .before .before .before .head .given .1)) _ (c .block .ensures)
+put-track-requires c κs =
+    let d = c .before .before .before in
+    let e = d .before .before in
+    let f = e .before in
+    let g = f .before .before .before in
+    walking-room _ _ _ _ _ _ _ _ (f .loop .inv) (g .pre .lines) _ _ (says-of _ _ _ (step.Track _ _) (e .step .ensures) (d .head .given .1)) _ (c .block .ensures)
 
 loop-less-2 : tie.Need-loop-less-2 Inv-loop μ-loop
-loop-less-2 c = falls _ _ (says-of _ _ _ (step.Track _ _) (c .before .before .before .before .before .before .before .before .step .ensures) (c .before .before .before .before .before .before .head .given .1) .moved)
+loop-less-2 c =
+    let d = c .before .before .before .before .before .before in
+    let e = d .before .before in
+    falls _ _ (says-of _ _ _ (step.Track _ _) (e .step .ensures) (d .head .given .1) .moved)
 
 loop-again-2 : tie.Need-loop-again-2 Inv-loop μ-loop
-loop-again-2 c = walking-track _ _ _ _ _ _ _ _ (c .before .before .before .before .before .before .before .before .before .loop .inv) (c .before .before .before .before .before .before .before .before .before .before .before .before .pre .lines) _ _ (says-of _ _ _ (step.Track _ _) (c .before .before .before .before .before .before .before .before .step .ensures) (c .before .before .before .before .before .before .head .given .1)) _ (c .before .before .before .block .ensures) _ _ (c .before .before .put-track .ensures)
+loop-again-2 c =
+    let d = c .before .before in
+    let e = d .before in
+    let f = e .before .before .before in
+    let g = f .before .before in
+    let h = g .before in
+    let i = h .before .before .before in
+    walking-track _ _ _ _ _ _ _ _ (h .loop .inv) (i .pre .lines) _ _ (says-of _ _ _ (step.Track _ _) (g .step .ensures) (f .head .given .1)) _ (e .block .ensures) _ _ (d .put-track .ensures)
 
 pub put-tracks-spec : {M : Type 1} → statement M
 put-tracks-spec =
