@@ -61,13 +61,19 @@ fn an_extended_image_of_two_sides_loads_with_every_sector() {
 }
 
 #[test]
+fn shorter_images_of_libdsk_load_with_every_sector() {
+    loads("normal-cpcsys-12.dsk", 0x1300, 108, (11, 0));
+    loads("extended-acorn800-5.dsk", 0x1500, 50, (4, 4));
+}
+
+#[test]
 fn every_image_in_the_folder_of_libdsk_is_tried_above() {
     let folder = concat!(env!("CARGO_MANIFEST_DIR"), "/../oracle/libdsk");
     let names = fs::read_dir(folder).expect("the folder").map(|entry| {
         let path = entry.expect("an entry").path();
         path.extension().is_some_and(|kind| kind == "dsk")
     });
-    assert_eq!(names.filter(|is_image| *is_image).count(), 3);
+    assert_eq!(names.filter(|is_image| *is_image).count(), 5);
 }
 
 #[test]
