@@ -13,8 +13,8 @@ use Rattle.image.specs.declared.walk.Kind.{Kind}
 use Rattle.image.specs.declared.walk.Head.{Head}
 use Rattle.image.specs.declared.walk.Row.{Row}
 use Rattle.image.specs.declared.walk.Totals.{Totals}
-use Rattle.listing.specs.Text.{diskWord, tracksWord, sectorsWord, bytesWord, trackWord, gapWord, fillerWord, sectorWord, space, end, refusedWord, kindWord, decimal, copies, printedAs}
-use Rattle.listing.specs.Lines.{Laid, idText, rowLine, headLine, totalsLine}
+use Rattle.listing.specs.Text.{diskWord, tracksWord, sectorsWord, bytesWord, trackWord, gapWord, fillerWord, sectorWord, space, end, refusedWord, kindWord, decimal, copies, printedAs, diskText, idText, sectorText, trackText}
+use Rattle.listing.specs.Lines.{Laid, rowLine, headLine, totalsLine}
 
 -- ---- one text behind another
 
@@ -87,17 +87,17 @@ id-length i = simp length-append (omega arith)
 pub row-length : (row : Row) → length (rowLine row)
     ≡ length (idText (row .id)) + 5 + length (decimal (row .st1 .bits)) + length (decimal (row .st2 .bits)) + length (decimal (row .stored))
     + length (decimal (copies (row .stored) (row .id .n)))
-unfolding rowLine
+unfolding sectorText
 row-length row = simp length-append (omega arith)
 
 pub head-length : (h : Head) → length (headLine h)
     ≡ 30 + length (decimal (h .cylinder)) + length (decimal (h .side)) + length (decimal (h .sectors)) + length (decimal (h .gap)) + length (decimal (h .filler))
-unfolding headLine
+unfolding trackText
 head-length h = simp length-append (omega arith)
 
 pub totals-length : (n : Totals) → length (totalsLine n)
     ≡ 25 + length (diskWord ++ kindWord (n .kind)) + length (decimal (n .tracks)) + length (decimal (n .sectors)) + length (decimal (n .bytes))
-unfolding totalsLine
+unfolding diskText
 totals-length n = simp length-append (omega arith)
 
 pub refusal-length : (why : Refusal) → length (printedAs (refused why)) ≡ 9 + length (decimal (numberOf why))
@@ -125,7 +125,7 @@ module _ {d d₁ d₂ : List ℕ} {at a₁ a₂ : ℕ} where
       pub totals-laid : (n : Totals) → at + length (totalsLine n) ≤ length d → Laid d at (diskWord ++ kindWord (n .kind)) d₁ a₁
           → Laid d₁ a₁ (tracksWord ++ decimal (n .tracks)) d₂ a₂ → Laid d₂ a₂ (sectorsWord ++ decimal (n .sectors)) d₃ a₃
           → Laid d₃ a₃ (bytesWord ++ decimal (n .bytes)) d₄ a₄ → Laid d₄ a₄ end d₅ a₅ → Laid d at (totalsLine n) d₅ a₅
-      unfolding totalsLine
+      unfolding diskText
       totals-laid n l p q r s t =
           both (diskWord ++ kindWord (n .kind)) _ l p
           (λ m. both (tracksWord ++ decimal (n .tracks)) _ m q
@@ -137,7 +137,7 @@ module _ {d d₁ d₂ : List ℕ} {at a₁ a₂ : ℕ} where
             → Laid d₁ a₁ (space ++ decimal (h .side)) d₂ a₂ → Laid d₂ a₂ (sectorsWord ++ decimal (h .sectors)) d₃ a₃
             → Laid d₃ a₃ (gapWord ++ decimal (h .gap)) d₄ a₄ → Laid d₄ a₄ (fillerWord ++ decimal (h .filler)) d₅ a₅ → Laid d₅ a₅ end d₆ a₆
             → Laid d at (headLine h) d₆ a₆
-        unfolding headLine
+        unfolding trackText
         head-laid h l p q r s t u =
             both (trackWord ++ decimal (h .cylinder)) _ l p
             (λ m. both (space ++ decimal (h .side)) _ m q
@@ -149,7 +149,7 @@ module _ {d d₁ d₂ : List ℕ} {at a₁ a₂ : ℕ} where
             → Laid d₁ a₁ (space ++ decimal (row .st1 .bits)) d₂ a₂ → Laid d₂ a₂ (space ++ decimal (row .st2 .bits)) d₃ a₃
             → Laid d₃ a₃ (space ++ decimal (row .stored)) d₄ a₄ → Laid d₄ a₄ (space ++ decimal n) d₅ a₅ → Laid d₅ a₅ end d₆ a₆
             → Laid d at (rowLine row) d₆ a₆
-        unfolding rowLine
+        unfolding sectorText
         row-laid row n e l p q r s t u =
             let t′ : Laid d₄ a₄ (space ++ decimal (copies (row .stored) (row .id .n))) d₅ a₅ =
             renamed (space ++ decimal n) (space ++ decimal (copies (row .stored) (row .id .n))) (ap (λ (k : ℕ). space ++ decimal k) e) t in

@@ -20,7 +20,7 @@ use Rattle.image.specs.declared.walk.Surveyed.the-variants as surveyed
 use Rattle.image.specs.declared.walk.Opened.{Opened}
 use Rattle.image.specs.declared.walk.Opened.the-variants as opened
 use Rattle.image.proofs.Steps.{opened-dsk}
-use Rattle.listing.specs.Text.{diskLine, trackLines, listingText, listingOf, printedAs, printed}
+use Rattle.listing.specs.Text.{trackLines, listingText, listingOf, printedAs, printed, diskText}
 use Rattle.listing.specs.Lines.{Laid, totalsLine, theDisk, toList, Listable}
 use Rattle.listing.proofs.Lines.{renamed, both}
 use Rattle.listing.proofs.Bounds.{Small, Few, walk-few, totals-few}
@@ -111,7 +111,7 @@ module _ (b : List ℕ) (short : length b ≤ 65536) where
               told-of (good d) p = let x : record { kind = w .kind; disk = d } ≡ s .dsk = cc in ap (λ (y : Dsk). good (y .disk)) x
 
           text-is : totalsLine n ++ trackLines (toList b w) ≡ printed b
-          unfolding totalsLine diskLine
+          unfolding diskText
           text-is = (λ i. totalsLine (s .totals i) ++ trackLines (theDisk (whole i))) ∙ sym printed-good
 
           room : Small b → length (totalsLine n) + length (trackLines (toList b w)) ≤ 98304

@@ -17,19 +17,17 @@ use Rattle.image.specs.declared.walk.Row.{Row}
 use Rattle.image.specs.declared.walk.Step.the-variants as step
 use Rattle.image.proofs.Tracks.{down, whole-part, sectors-length, track-good}
 use Rattle.image.proofs.Steps.{Says}
-use Rattle.listing.specs.Text.{sectorLine, trackLine, sectorLines, trackLines}
-use Rattle.listing.specs.Lines.{Laid, idText, rowLine, headLine, rowLines, blockLines, theDisk, toList, Listable}
+use Rattle.listing.specs.Text.{sectorLine, trackLine, sectorLines, trackLines, sectorText}
+use Rattle.listing.specs.Lines.{Laid, rowLine, headLine, rowLines, blockLines, theDisk, toList, Listable}
 use Rattle.listing.proofs.Lines.{Left, left-start, left-done, left-room, left-again}
 
 -- ---- a track block
 
 -- a sector whose data are whole has the line of its entry
 row-line : (row : Row) (b : List ℕ) → length (take (row .stored) b) ≡ row .stored → rowLine row ≡ sectorLine (sectorOf row b)
-unfolding sectorLine rowLine idText
-row-line row b e = rw e (simp append-assoc)
+row-line row b e = ap (sectorText (row .id) (row .st1 .bits) (row .st2 .bits)) (sym e)
 
 head-line : (t : Track) → headLine (headOf t) ≡ trackLine t
-unfolding headLine trackLine
 head-line t = refl
 
 module _ (kind : Kind) (b : List ℕ) where

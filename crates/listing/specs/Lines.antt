@@ -8,46 +8,27 @@ use Rattle.image.specs.Refusals.{Result, refused, good}
 use Rattle.image.specs.Model.{Disk}
 use Rattle.image.specs.Dsk.{rowOf}
 use Rattle.image.specs.Calls.{leftOf}
-use Rattle.image.specs.declared.id.SectorId.{SectorId}
 use Rattle.image.specs.declared.walk.Kind.{Kind}
 use Rattle.image.specs.declared.walk.Walk.{Walk}
 use Rattle.image.specs.declared.walk.Head.{Head}
 use Rattle.image.specs.declared.walk.Row.{Row}
 use Rattle.image.specs.declared.walk.Totals.{Totals}
-use Rattle.listing.specs.Text.{diskWord, tracksWord, sectorsWord, bytesWord, trackWord, gapWord, fillerWord, sectorWord, space, end, kindWord, decimal, copies, trackLines}
+use Rattle.listing.specs.Text.{sectorText, trackText, diskText, trackLines}
 
 -- a text was laid from a place on, and the place behind it answered
 pub record Laid (d : List ℕ) (at : ℕ) (text d′ : List ℕ) (next : ℕ) : Type 0 where
   pub bytes : d′ ≡ over d at text
   pub behind : next ≡ at + length text
 
--- the beginning of a sector's line, and the line of an entry
-unfoldable pub idText : SectorId → List ℕ
-idText i = sectorWord ++ (decimal (i .c) ++ (space ++ (decimal (i .h) ++ (space ++ (decimal (i .r) ++ (space ++ decimal (i .n)))))))
+-- the line of an entry, a track's by what was read of it, and a disk's by what was counted
+abbrev pub rowLine : Row → List ℕ
+rowLine row = sectorText (row .id) (row .st1 .bits) (row .st2 .bits) (row .stored)
 
-unfoldable pub rowLine : Row → List ℕ
-rowLine row =
-    idText (row .id)
-    ++ (space ++ (decimal (row .st1 .bits)
-    ++ (space ++ (decimal (row .st2 .bits)
-    ++ (space ++ (decimal (row .stored)
-    ++ (space ++ (decimal (copies (row .stored) (row .id .n)) ++ end))))))))
+abbrev pub headLine : Head → List ℕ
+headLine h = trackText (h .cylinder) (h .side) (h .sectors) (h .gap) (h .filler)
 
--- a track's line by what was read of it, and a disk's by what was counted
-unfoldable pub headLine : Head → List ℕ
-headLine h =
-    trackWord ++ (decimal (h .cylinder)
-    ++ (space ++ (decimal (h .side)
-    ++ (sectorsWord ++ (decimal (h .sectors)
-    ++ (gapWord ++ (decimal (h .gap)
-    ++ (fillerWord ++ (decimal (h .filler) ++ end)))))))))
-
-unfoldable pub totalsLine : Totals → List ℕ
-totalsLine n =
-    diskWord ++ (kindWord (n .kind)
-    ++ (tracksWord ++ (decimal (n .tracks)
-    ++ (sectorsWord ++ (decimal (n .sectors)
-    ++ (bytesWord ++ (decimal (n .bytes) ++ end)))))))
+abbrev pub totalsLine : Totals → List ℕ
+totalsLine n = diskText (n .kind) (n .tracks) (n .sectors) (n .bytes)
 
 -- the lines of so many entries of a track block's sector list, from entry k on
 unfoldable pub rowLines : Kind → List ℕ → ℕ → ℕ → List ℕ

@@ -7,6 +7,7 @@ use lib.Dec.{eqb, ltb, leb}
 use Rattle.image.specs.Refusals.{Result, refused, good, need, after, numberOf}
 use Rattle.image.specs.Model.{sizeOf, Sector, Track, Disk, sectorCount, byteCount}
 use Rattle.image.specs.Dsk.{Dsk, dskOf}
+use Rattle.image.specs.declared.id.SectorId.{SectorId}
 use Rattle.image.specs.declared.walk.Kind.{Kind}
 use Rattle.image.specs.declared.walk.Kind.the-variants.{Normal, Extended}
 use Rattle.image.specs.declared.refusal.Refusal.the-variants.{LongInput, TooManyTracks, TooManySectors}
@@ -72,33 +73,42 @@ unfoldable pub copies : ℕ → ℕ → ℕ
 copies stored n = cond (eqb (stored % sizeOf n) 0) (stored / sizeOf n) 0
 
 -- each sector: c, h, r, n, st1, st2, stored length, copies
-unfoldable pub sectorLine : Sector → List ℕ
-sectorLine s =
-    sectorWord ++ (decimal (s .id .c)
-    ++ (space ++ (decimal (s .id .h)
-    ++ (space ++ (decimal (s .id .r)
-    ++ (space ++ (decimal (s .id .n)
-    ++ (space ++ (decimal (s .st1 .bits)
-    ++ (space ++ (decimal (s .st2 .bits)
-    ++ (space ++ (decimal (length (s .content))
-    ++ (space ++ (decimal (copies (length (s .content)) (s .id .n)) ++ end)))))))))))))))
+unfoldable pub idText : SectorId → List ℕ
+idText i = sectorWord ++ (decimal (i .c) ++ (space ++ (decimal (i .h) ++ (space ++ (decimal (i .r) ++ (space ++ decimal (i .n)))))))
+
+unfoldable pub sectorText : SectorId → ℕ → ℕ → ℕ → List ℕ
+sectorText id st1 st2 stored =
+    idText id
+    ++ (space ++ (decimal st1
+    ++ (space ++ (decimal st2
+    ++ (space ++ (decimal stored
+    ++ (space ++ (decimal (copies stored (id .n)) ++ end))))))))
+
+abbrev pub sectorLine : Sector → List ℕ
+sectorLine s = sectorText (s .id) (s .st1 .bits) (s .st2 .bits) (length (s .content))
 
 -- each track: cylinder, side, sectors, gap, filler
-unfoldable pub trackLine : Track → List ℕ
-trackLine t =
-    trackWord ++ (decimal (t .cylinder)
-    ++ (space ++ (decimal (t .side)
-    ++ (sectorsWord ++ (decimal (length (t .sectors))
-    ++ (gapWord ++ (decimal (t .gap)
-    ++ (fillerWord ++ (decimal (t .filler) ++ end)))))))))
+unfoldable pub trackText : ℕ → ℕ → ℕ → ℕ → ℕ → List ℕ
+trackText cylinder side sectors gap filler =
+    trackWord ++ (decimal cylinder
+    ++ (space ++ (decimal side
+    ++ (sectorsWord ++ (decimal sectors
+    ++ (gapWord ++ (decimal gap
+    ++ (fillerWord ++ (decimal filler ++ end)))))))))
+
+abbrev pub trackLine : Track → List ℕ
+trackLine t = trackText (t .cylinder) (t .side) (length (t .sectors)) (t .gap) (t .filler)
 
 -- first line: kind, tracks loaded, sectors, sum of stored lengths
-unfoldable pub diskLine : Dsk → List ℕ
-diskLine d =
-    diskWord ++ (kindWord (d .kind)
-    ++ (tracksWord ++ (decimal (length (d .disk))
-    ++ (sectorsWord ++ (decimal (sectorCount (d .disk))
-    ++ (bytesWord ++ (decimal (byteCount (d .disk)) ++ end)))))))
+unfoldable pub diskText : Kind → ℕ → ℕ → ℕ → List ℕ
+diskText kind tracks sectors bytes =
+    diskWord ++ (kindWord kind
+    ++ (tracksWord ++ (decimal tracks
+    ++ (sectorsWord ++ (decimal sectors
+    ++ (bytesWord ++ (decimal bytes ++ end)))))))
+
+abbrev pub diskLine : Dsk → List ℕ
+diskLine d = diskText (d .kind) (length (d .disk)) (sectorCount (d .disk)) (byteCount (d .disk))
 
 -- the sectors, each on a line; the tracks, each with its sectors under it
 unfoldable pub sectorLines : List Sector → List ℕ

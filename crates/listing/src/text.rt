@@ -12,8 +12,8 @@ ghost use Prim.Native.Nat.{_+_, _≤_};
 ghost use mathlib.Core.List.{_++_};
 ghost use lib.ListN.{length, drop};
 ghost use Rattle.image.specs.Refusals.{refused};
-ghost use Rattle.listing.specs.Text.{diskWord, kindWord, decimal, copies, trackLines, printedAs};
-ghost use Rattle.listing.specs.Lines.{Laid, idText, rowLine, headLine, totalsLine, rowLines, blockLines, toList, Listable};
+ghost use Rattle.listing.specs.Text.{diskWord, kindWord, decimal, copies, trackLines, printedAs, idText};
+ghost use Rattle.listing.specs.Lines.{Laid, rowLine, headLine, totalsLine, rowLines, blockLines, toList, Listable};
 
 // Writes the digits of a number at the end of `digits`, and answers where they begin.
 fn write_digits(digits: &mut [u8], n: usize) -> usize

@@ -52,7 +52,7 @@ returns c =
     let h = g .before .before .before .before .before in
     let i = h .before .before .before .before .before in
     let j = i .before .before .before .before in
-    head-laid _ (j .pre) (i .put-byte .ensures) (h .put-byte2 .ensures) (g .put-byte3 .ensures) (f .put-byte4 .ensures) (e .put-byte5 .ensures) (d .put-word .ensures)
+    head-laid (j .args .head) (j .pre) (i .put-byte .ensures) (h .put-byte2 .ensures) (g .put-byte3 .ensures) (f .put-byte4 .ensures) (e .put-byte5 .ensures) (d .put-word .ensures)
 
 pub put-head-spec : {M : Type 1} → statement M
 put-head-spec =
