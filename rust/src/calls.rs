@@ -1,71 +1,55 @@
-//! The exported calls over slices. All `unsafe` of the crate is in this module, and in the declarations of [`ffi`].
-//!
-//! # Safety
-//!
-//! A slice goes out as its pointer and its length. It is valid for so many bytes while the call runs, its pointer
-//! is not null even where it is empty, and Rust lends no two slices that overlap if one of them may be changed.
-//! That is all that [`ffi`] asks, and it is so in each call below.
+//! The exported calls with their words taken apart: a byte, a flag or a length, or the refusal.
 
-use crate::{Refusal, SectorId, ffi};
+use crate::{Refusal, SectorId, words};
 
 /// How many bytes a controller has.
 pub fn controller_length() -> usize {
-    length(unsafe { ffi::floppy_controller_length() })
+    length(words::lengths().0)
 }
 
 /// How many bytes a disk's table has.
 pub fn table_length() -> usize {
-    length(unsafe { ffi::disk_table_length() })
+    length(words::lengths().1)
 }
 
 /// Makes the bytes those of a new controller.
 pub fn new(controller: &mut [u8]) -> Result<(), Refusal> {
-    done(unsafe { ffi::floppy_new(controller.as_mut_ptr(), controller.len()) })
+    done(words::new(controller))
 }
 
 /// Switches the motor.
 pub fn set_motor(controller: &mut [u8], on: bool) -> Result<(), Refusal> {
-    done(unsafe { ffi::floppy_set_motor(controller.as_mut_ptr(), controller.len(), on.into()) })
+    done(words::set_motor(controller, on.into()))
 }
 
 /// Whether the motor is on.
 pub fn motor(controller: &[u8]) -> Result<bool, Refusal> {
-    let word = unsafe { ffi::floppy_motor(controller.as_ptr(), controller.len()) };
-    Ok(answer(word)? != 0)
+    flag(words::motor(controller))
 }
 
 /// The cylinder that the head is over.
 pub fn current_track(controller: &[u8]) -> Result<u8, Refusal> {
-    answer(unsafe { ffi::floppy_current_track(controller.as_ptr(), controller.len()) })
+    answer(words::current_track(controller))
 }
 
 /// Says whether a disk is in the drive.
 pub fn set_disk(controller: &mut [u8], present: bool) -> Result<(), Refusal> {
-    let present = present.into();
-    done(unsafe { ffi::floppy_set_disk(controller.as_mut_ptr(), controller.len(), present) })
+    done(words::set_disk(controller, present.into()))
 }
 
 /// Whether a disk is in the drive.
 pub fn disk(controller: &[u8]) -> Result<bool, Refusal> {
-    let word = unsafe { ffi::floppy_disk(controller.as_ptr(), controller.len()) };
-    Ok(answer(word)? != 0)
+    flag(words::disk(controller))
 }
 
 /// Reads the main status.
 pub fn read_status(controller: &mut [u8]) -> Result<u8, Refusal> {
-    answer(unsafe { ffi::floppy_read_status(controller.as_mut_ptr(), controller.len()) })
+    answer(words::read_status(controller))
 }
 
 /// Reads a byte from the data port.
 pub fn read_cmd(controller: &mut [u8], transfer: &[u8]) -> Result<u8, Refusal> {
-    answer(unsafe {
-        ffi::floppy_read_cmd(
-            controller.as_mut_ptr(),
-            controller.len(),
-            transfer.as_ptr(),
-            transfer.len(),
-        )
-    })
+    answer(words::read_cmd(controller, transfer))
 }
 
 /// Sends a byte to the data port.
@@ -76,51 +60,22 @@ pub fn write_cmd(
     transfer: &mut [u8],
     b: u8,
 ) -> Result<(), Refusal> {
-    done(unsafe {
-        ffi::floppy_write_cmd(
-            controller.as_mut_ptr(),
-            controller.len(),
-            table.as_mut_ptr(),
-            table.len(),
-            data.as_mut_ptr(),
-            data.len(),
-            transfer.as_mut_ptr(),
-            transfer.len(),
-            b,
-        )
-    })
+    done(words::write_cmd(controller, table, data, transfer, b))
 }
 
 /// Loads an image into a store.
 pub fn load(image: &[u8], table: &mut [u8], data: &mut [u8]) -> Result<(), Refusal> {
-    done(unsafe {
-        ffi::disk_new(
-            image.as_ptr(),
-            image.len(),
-            table.as_mut_ptr(),
-            table.len(),
-            data.as_mut_ptr(),
-            data.len(),
-        )
-    })
+    done(words::disk_new(image, table, data))
 }
 
 /// Makes a store that of a freshly formatted disk.
 pub fn new_formatted(table: &mut [u8], data: &mut [u8]) -> Result<(), Refusal> {
-    done(unsafe {
-        ffi::disk_new_formatted(
-            table.as_mut_ptr(),
-            table.len(),
-            data.as_mut_ptr(),
-            data.len(),
-        )
-    })
+    done(words::disk_new_formatted(table, data))
 }
 
 /// The greatest cylinder of side 0, and of the other sides.
 pub fn geometry(table: &[u8], data: &[u8]) -> Result<(u8, u8), Refusal> {
-    let word =
-        unsafe { ffi::disk_geometry(table.as_ptr(), table.len(), data.as_ptr(), data.len()) };
+    let word = words::geometry(table, data);
     Ok((answer(word)?, (word >> 16) as u8))
 }
 
@@ -130,43 +85,20 @@ pub fn has_sector(
     data: &[u8],
     side: u8,
     cylinder: u8,
-    id: SectorId,
+    SectorId { c, h, r, n }: SectorId,
 ) -> Result<bool, Refusal> {
-    let SectorId { c, h, r, n } = id;
-    let word = unsafe {
-        ffi::disk_has_sector(
-            table.as_ptr(),
-            table.len(),
-            data.as_ptr(),
-            data.len(),
-            side,
-            cylinder,
-            c,
-            h,
-            r,
-            n,
-        )
-    };
-    Ok(answer(word)? != 0)
+    flag(words::has_sector(table, data, [side, cylinder, c, h, r, n]))
 }
 
 /// The bytes of the sector at that address; none also where there is no such sector, or no disk in the store.
-pub fn sector<'a>(table: &[u8], data: &'a [u8], side: u8, cylinder: u8, id: SectorId) -> &'a [u8] {
-    let SectorId { c, h, r, n } = id;
-    let word = unsafe {
-        ffi::disk_sector(
-            table.as_ptr(),
-            table.len(),
-            data.as_ptr(),
-            data.len(),
-            side,
-            cylinder,
-            c,
-            h,
-            r,
-            n,
-        )
-    };
+pub fn sector<'a>(
+    table: &[u8],
+    data: &'a [u8],
+    side: u8,
+    cylinder: u8,
+    SectorId { c, h, r, n }: SectorId,
+) -> &'a [u8] {
+    let word = words::sector(table, data, [side, cylinder, c, h, r, n]);
     let place = (word >> 32) as usize;
     &data[place..place + length(word)]
 }
@@ -184,6 +116,11 @@ fn answer(word: u64) -> Result<u8, Refusal> {
             panic!("the library answers refusal {number}, which this crate does not know: they are of two versions")
         })),
     }
+}
+
+/// The flag that an answer word bears, or its refusal.
+fn flag(word: u64) -> Result<bool, Refusal> {
+    Ok(answer(word)? != 0)
 }
 
 /// The answer of a call that has none but its refusal.
@@ -207,19 +144,14 @@ mod tests {
         let mut table = vec![0; table_length()];
         let mut data = [0; 1];
         let image = [0; 12];
-        let (own, length) = (own.as_mut_ptr(), own.len());
-        let (table, rows) = (table.as_mut_ptr(), table.len());
-        let (data, room) = (data.as_mut_ptr(), data.len());
-        let words = unsafe {
-            [
-                ffi::floppy_new(own, length),
-                ffi::floppy_motor(own, length),
-                ffi::disk_geometry(table, rows - 1, data, room),
-                ffi::disk_new(image.as_ptr(), 11, table, rows, data, room),
-                ffi::disk_new(image.as_ptr(), 12, table, rows, data, room),
-                ffi::disk_new_formatted(table, rows, data, room),
-            ]
-        };
+        let words = [
+            words::new(&mut own),
+            words::motor(&own),
+            words::geometry(&table[1..], &data),
+            words::disk_new(&image[1..], &mut table, &mut data),
+            words::disk_new(&image, &mut table, &mut data),
+            words::disk_new_formatted(&mut table, &mut data),
+        ];
         assert_eq!(words, [0x100, 0x100, 0x200, 0x300, 0x400, 0x800]);
     }
 

@@ -36,13 +36,14 @@
 #![deny(unsafe_code)]
 #![deny(unsafe_op_in_unsafe_fn)]
 
-#[allow(unsafe_code)]
 mod calls;
 mod controller;
 mod disk;
 #[allow(unsafe_code)]
 mod ffi;
 mod refusal;
+#[allow(unsafe_code)]
+mod words;
 
 pub use controller::Controller;
 pub use disk::{Disk, SectorId};
