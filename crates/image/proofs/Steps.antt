@@ -10,7 +10,7 @@ use borrow.Author.Tests.{lt-ltb, le-ltb, ltb-true, ltb-false}
 use Rattle.image.specs.Refusals.{Result, refused, good, after}
 use Rattle.image.specs.Model.{Track, Disk, total, trackBytes, sectorCount, byteCount}
 use Rattle.image.specs.Dsk.{Dsk, entries, entryOf, headerOf, trackOf, before, placed, tracksFrom, imageOf, dskOf}
-use Rattle.image.specs.Calls.{headOf, blockOf, openedOf, past, readStep, entryStep, stepOf, leftOf, surveyOf}
+use Rattle.image.specs.Calls.{headOf, blockOf, openedOf, past, readStep, entryStep, stepOf, leftOf, tracksIn, toCome, surveyOf}
 use Rattle.image.specs.declared.refusal.Refusal.{Refusal}
 use Rattle.image.specs.declared.walk.Kind.{Kind}
 use Rattle.image.specs.declared.walk.Entry.{Entry}
@@ -265,3 +265,36 @@ module _ (b : List ℕ) (o : Opened) (e : o ≡ openedOf b (headerOf b)) where
       told : (h : Result Kind) → openedOf b h ≡ opened.Ready w → w .entries ≡ entries b
       told (refused y) q = let z : _≡_ {A = ℕ} 0 1 = cc in absurd (omega arith)
       told (good kind) q = cc
+
+-- ---- a walk over tracks that are good
+
+-- a track before the rest, both read as good
+pub come-split : (b : List ℕ) (w r : Walk) (t : Track) → leftOf b w ≡ before t (leftOf b r) → leftOf b w ≡ good (toCome b w)
+    → (leftOf b r ≡ good (toCome b r)) × (toCome b w ≡ t ∷ toCome b r)
+come-split b w r t e f = by (leftOf b r) refl
+  where
+    by : (q : Result Disk) → leftOf b r ≡ q → (q ≡ good (tracksIn q)) × (toCome b w ≡ t ∷ tracksIn q)
+    by (refused why) g =
+        let x : before t (leftOf b r) ≡ refused why = ap (before t) g in
+        let z : _≡_ {A = ℕ} 0 1 = cc in absurd (omega arith)
+    by (good d) g =
+        let x : leftOf b w ≡ good (t ∷ d) = e ∙ ap (before t) g in
+        (refl, ap tracksIn x)
+
+module _ (b : List ℕ) (d : Dsk) (read : dskOf b ≡ good d) (o : Opened) (e : o ≡ openedOf b (headerOf b)) where
+  -- an image that was read opens
+  pub read-opens : (why : Refusal) → o ≡ opened.Refused why → ⊥
+  unfolding dskOf
+  read-opens why f = told (headerOf b) (sym e ∙ f) read
+    where
+      told : (k : Result Kind) → openedOf b k ≡ opened.Refused why → after k (λ kind. imageOf kind (tracksFrom kind b 0 0x100 (entries b))) ≡ good d → ⊥
+      told (refused y) p q = let z : _≡_ {A = ℕ} 0 1 = cc in omega arith
+      told (good k) p q = let z : _≡_ {A = ℕ} 0 1 = cc in omega arith
+
+  -- and what the walk has to hand out is its disk
+  pub read-whole : (w : Walk) → o ≡ opened.Ready w → leftOf b w ≡ good (d .disk)
+  read-whole w f = told (leftOf b w) (sym (opened-dsk b o e w f) ∙ read)
+    where
+      told : (q : Result Disk) → imageOf (w .kind) q ≡ good d → q ≡ good (d .disk)
+      told (refused y) p = cc
+      told (good x) p = let z : record { kind = w .kind; disk = x } ≡ d = cc in ap (λ (y : Dsk). good (y .disk)) z

@@ -76,3 +76,11 @@ stepOf b w = cond (ltb (w .entry) (w .entries)) (entryStep b w (entryOf (w .kind
 -- the tracks that a walk has still to hand out
 unfoldable pub leftOf : List ℕ → Walk → Result Disk
 leftOf b w = tracksFrom (w .kind) b (w .entry) (w .at) (w .entries - w .entry)
+
+-- the tracks that it has still to hand out where they are good, none where they are not
+abbrev pub tracksIn : Result Disk → Disk
+tracksIn (refused why) = []
+tracksIn (good d) = d
+
+abbrev pub toCome : List ℕ → Walk → Disk
+toCome b w = tracksIn (leftOf b w)

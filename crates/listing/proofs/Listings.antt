@@ -9,19 +9,18 @@ use borrow.Author.Tests.{le-leb, lt-leb}
 use Rattle.buffer.specs.Over.{over}
 use Rattle.image.specs.Refusals.{Result, refused, good, need, after}
 use Rattle.image.specs.Model.{Disk, sectorCount, byteCount}
-use Rattle.image.specs.Dsk.{Dsk, entries, headerOf, tracksFrom, imageOf, dskOf}
-use Rattle.image.specs.Calls.{openedOf, leftOf, surveyOf}
+use Rattle.image.specs.Dsk.{Dsk, headerOf, dskOf}
+use Rattle.image.specs.Calls.{openedOf, leftOf, tracksIn, toCome, surveyOf}
 use Rattle.image.specs.declared.refusal.Refusal.{Refusal}
 use Rattle.image.specs.declared.refusal.Refusal.the-variants.{LongInput, TooManyTracks, TooManySectors}
-use Rattle.image.specs.declared.walk.Kind.{Kind}
 use Rattle.image.specs.declared.walk.Walk.{Walk}
 use Rattle.image.specs.declared.walk.Totals.{Totals}
 use Rattle.image.specs.declared.walk.Surveyed.the-variants as surveyed
 use Rattle.image.specs.declared.walk.Opened.{Opened}
 use Rattle.image.specs.declared.walk.Opened.the-variants as opened
-use Rattle.image.proofs.Steps.{opened-dsk}
+use Rattle.image.proofs.Steps.{read-opens, read-whole}
 use Rattle.listing.specs.Text.{trackLines, listingText, listingOf, printedAs, printed, diskText}
-use Rattle.listing.specs.Lines.{Laid, totalsLine, theDisk, toList, Listable}
+use Rattle.listing.specs.Lines.{Laid, totalsLine, Listable}
 use Rattle.listing.proofs.Lines.{renamed, both}
 use Rattle.listing.proofs.Bounds.{Small, Few, walk-few, totals-few}
 
@@ -91,43 +90,31 @@ module _ (b : List ℕ) (short : length b ≤ 65536) where
         unfolding capped
         printed-good = printed-is ∙ simp (le-leb _ _ few, le-leb _ _ less)
 
-        -- an image that was read opens
         pub opens : (why : Refusal) → o ≡ opened.Refused why → ⊥
-        unfolding dskOf
-        opens why f = told-of (headerOf b) (sym eo ∙ f) (s .read)
-          where
-            told-of : (k : Result Kind) → openedOf b k ≡ opened.Refused why
-                → after k (λ kind. imageOf kind (tracksFrom kind b 0 0x100 (entries b))) ≡ good (s .dsk) → ⊥
-            told-of (refused y) p q = let z : _≡_ {A = ℕ} 0 1 = cc in omega arith
-            told-of (good k) p q = let z : _≡_ {A = ℕ} 0 1 = cc in omega arith
+        opens = read-opens b (s .dsk) (s .read) o eo
 
         module _ (w : Walk) (f : o ≡ opened.Ready w) where
-          -- what the walk has to hand out is the disk
           whole : leftOf b w ≡ good (s .dsk .disk)
-          whole = told-of (leftOf b w) (sym (opened-dsk b o eo w f) ∙ s .read)
-            where
-              told-of : (q : Result Disk) → imageOf (w .kind) q ≡ good (s .dsk) → q ≡ good (s .dsk .disk)
-              told-of (refused y) p = cc
-              told-of (good d) p = let x : record { kind = w .kind; disk = d } ≡ s .dsk = cc in ap (λ (y : Dsk). good (y .disk)) x
+          whole = read-whole b (s .dsk) (s .read) o eo w f
 
-          text-is : totalsLine n ++ trackLines (toList b w) ≡ printed b
+          text-is : totalsLine n ++ trackLines (toCome b w) ≡ printed b
           unfolding diskText
-          text-is = (λ i. totalsLine (s .totals i) ++ trackLines (theDisk (whole i))) ∙ sym printed-good
+          text-is = (λ i. totalsLine (s .totals i) ++ trackLines (tracksIn (whole i))) ∙ sym printed-good
 
-          room : Small b → length (totalsLine n) + length (trackLines (toList b w)) ≤ 98304
+          room : Small b → length (totalsLine n) + length (trackLines (toCome b w)) ≤ 98304
           room small =
               let x : Few (good (s .dsk .disk)) = subst Few whole (walk-few b small w) in
-              let d : toList b w ≡ s .dsk .disk = ap theDisk whole in
-              let y : length (trackLines (toList b w)) ≡ length (trackLines (s .dsk .disk)) = ap (λ (z : Disk). length (trackLines z)) d in
+              let d : toCome b w ≡ s .dsk .disk = ap tracksIn whole in
+              let y : length (trackLines (toCome b w)) ≡ length (trackLines (s .dsk .disk)) = ap (λ (z : Disk). length (trackLines z)) d in
               let t : n .tracks ≡ length (s .dsk .disk) = ap (λ (m : Totals). m .tracks) (s .totals) in
               let u : n .sectors ≡ sectorCount (s .dsk .disk) = ap (λ (m : Totals). m .sectors) (s .totals) in
               omega (arith, totals-few n)
 
           pub listable : Small b → (at long : ℕ) → at ≡ 0 + length (totalsLine n) → long ≡ 98304 → Listable b w at long
-          listable small at long q m = record { whole = whole ∙ ap good (sym (ap theDisk whole)); lines = omega (arith, room small) }
+          listable small at long q m = record { whole = whole ∙ ap good (sym (ap tracksIn whole)); lines = omega (arith, room small) }
 
           pub listed : {d d₁ d₂ : List ℕ} {a₁ a₂ : ℕ} → Small b → length d ≡ 98304 → Laid d 0 (totalsLine n) d₁ a₁
-              → Laid d₁ a₁ (trackLines (toList b w)) d₂ a₂ → Laid d 0 (printed b) d₂ a₂
+              → Laid d₁ a₁ (trackLines (toCome b w)) d₂ a₂ → Laid d 0 (printed b) d₂ a₂
           listed {d} small size p q =
-              let l : 0 + length (totalsLine n ++ trackLines (toList b w)) ≤ length d = simp length-append (omega (arith, room small)) in
-              renamed _ _ text-is (both (totalsLine n) (trackLines (toList b w)) l p (λ m. q))
+              let l : 0 + length (totalsLine n ++ trackLines (toCome b w)) ≤ length d = simp length-append (omega (arith, room small)) in
+              renamed _ _ text-is (both (totalsLine n) (trackLines (toCome b w)) l p (λ m. q))

@@ -7,8 +7,8 @@ use lib.ListN.{length, take, drop}
 use Rattle.image.specs.Refusals.{Result, refused, good}
 use Rattle.image.specs.Bytes.{byteAt}
 use Rattle.image.specs.Model.{Track, Disk}
-use Rattle.image.specs.Dsk.{rowOf, sectorOf, sectorsFrom, storedFrom, trackIn, trackOf, before}
-use Rattle.image.specs.Calls.{headOf, leftOf}
+use Rattle.image.specs.Dsk.{rowOf, sectorOf, sectorsFrom, storedFrom, trackIn, trackOf}
+use Rattle.image.specs.Calls.{headOf, leftOf, tracksIn, toCome}
 use Rattle.image.specs.declared.refusal.Refusal.{Refusal}
 use Rattle.image.specs.declared.walk.Kind.{Kind}
 use Rattle.image.specs.declared.walk.Walk.{Walk}
@@ -16,9 +16,9 @@ use Rattle.image.specs.declared.walk.Head.{Head}
 use Rattle.image.specs.declared.walk.Row.{Row}
 use Rattle.image.specs.declared.walk.Step.the-variants as step
 use Rattle.image.proofs.Tracks.{down, whole-part, sectors-length, track-good}
-use Rattle.image.proofs.Steps.{Says}
+use Rattle.image.proofs.Steps.{Says, come-split}
 use Rattle.listing.specs.Text.{sectorLine, trackLine, sectorLines, trackLines, sectorText}
-use Rattle.listing.specs.Lines.{Laid, rowLine, headLine, rowLines, blockLines, theDisk, toList, Listable}
+use Rattle.listing.specs.Lines.{Laid, rowLine, headLine, rowLines, blockLines, Listable}
 use Rattle.listing.proofs.Lines.{Left, left-start, left-done, left-room, left-again}
 
 -- ---- a track block
@@ -88,21 +88,8 @@ module _ (kind : Kind) (b : List ℕ) where
 -- what it knows at its head
 pub record Walking (img d₀ : List ℕ) (place : ℕ) (start : Walk) (kind : Kind) (d : List ℕ) (w : Walk) (at : ℕ) : Type 0 where
   pub same-kind : w .kind ≡ kind
-  pub whole : leftOf img w ≡ good (toList img w)
-  pub left : Left d₀ place (trackLines (toList img start)) d at (trackLines (toList img w))
-
--- a track before the rest, both read as good
-split : (img : List ℕ) (w r : Walk) (t : Track) → leftOf img w ≡ before t (leftOf img r) → leftOf img w ≡ good (toList img w)
-    → (leftOf img r ≡ good (toList img r)) × (toList img w ≡ t ∷ toList img r)
-split img w r t e f = by (leftOf img r) refl
-  where
-    by : (q : Result Disk) → leftOf img r ≡ q → (q ≡ good (theDisk q)) × (toList img w ≡ t ∷ theDisk q)
-    by (refused why) g =
-        let x : before t (leftOf img r) ≡ refused why = ap (before t) g in
-        let z : _≡_ {A = ℕ} 0 1 = cc in absurd (omega arith)
-    by (good d) g =
-        let x : leftOf img w ≡ good (t ∷ d) = e ∙ ap (before t) g in
-        (refl, ap theDisk x)
+  pub whole : leftOf img w ≡ good (toCome img w)
+  pub left : Left d₀ place (trackLines (toCome img start)) d at (trackLines (toCome img w))
 
 module _ (img d₀ : List ℕ) (place : ℕ) (start : Walk) (kind : Kind) where
   pub walking-start : start .kind ≡ kind → Listable img start place (length d₀) → Walking img d₀ place start kind d₀ start place
@@ -111,36 +98,36 @@ module _ (img d₀ : List ℕ) (place : ℕ) (start : Walk) (kind : Kind) where
   module _ (d : List ℕ) (w : Walk) (at : ℕ) (l : Walking img d₀ place start kind d w at) where
     -- an image that was read as good is not refused now
     pub walking-never : (why : Refusal) → Says img w (step.Refused why) → ⊥
-    walking-never why e = let x : leftOf img w ≡ good (toList img w) = l .whole in let z : _≡_ {A = ℕ} 0 1 = cc in omega arith
+    walking-never why e = let x : leftOf img w ≡ good (toCome img w) = l .whole in let z : _≡_ {A = ℕ} 0 1 = cc in omega arith
 
-    pub walking-end : Says img w step.End → Laid d₀ place (trackLines (toList img start)) d at
+    pub walking-end : Says img w step.End → Laid d₀ place (trackLines (toCome img start)) d at
     unfolding trackLines
-    walking-end e = left-done d₀ place _ d at (trackLines (toList img w)) (l .left) (ap (λ (x : Result Disk). trackLines (theDisk x)) e)
+    walking-end e = left-done d₀ place _ d at (trackLines (toCome img w)) (l .left) (ap (λ (x : Result Disk). trackLines (tracksIn x)) e)
 
     pub walking-absent : (r : Walk) → Says img w (step.Absent r) → Walking img d₀ place start kind d r at
     walking-absent r e =
-        let q : toList img r ≡ toList img w = ap theDisk (sym (e .1)) in
+        let q : toCome img r ≡ toCome img w = ap tracksIn (sym (e .1)) in
         record { same-kind = e .0 .kind ∙ l .same-kind; whole = sym (e .1) ∙ l .whole ∙ ap good (sym q); left = rw q (l .left) }
 
-    module _ (room : place + length (trackLines (toList img start)) ≤ length d₀) (h : Head) (r : Walk) (e : Says img w (step.Track h r)) (p : List ℕ) (ep : p ≡ drop (w .at) img) where
-      rest : (leftOf img r ≡ good (toList img r)) × (toList img w ≡ e .track ∷ toList img r)
-      rest = split img w r (e .track) (e .left) (l .whole)
+    module _ (room : place + length (trackLines (toCome img start)) ≤ length d₀) (h : Head) (r : Walk) (e : Says img w (step.Track h r)) (p : List ℕ) (ep : p ≡ drop (w .at) img) where
+      rest : (leftOf img r ≡ good (toCome img r)) × (toCome img w ≡ e .track ∷ toCome img r)
+      rest = come-split img w r (e .track) (e .left) (l .whole)
 
       -- the track's lines come first
-      first : trackLines (toList img w) ≡ blockLines kind p h ++ trackLines (toList img r)
+      first : trackLines (toCome img w) ≡ blockLines kind p h ++ trackLines (toCome img r)
       unfolding trackLines
       first =
           let read : trackOf kind p ≡ good (e .track) = (λ i. trackOf (sym (l .same-kind) i) (ep i)) ∙ e .read in
           ap trackLines (rest .1)
-          ∙ sym (append-assoc (trackLine (e .track)) (sectorLines (e .track .sectors)) (trackLines (toList img r)))
-          ∙ ap (λ (x : List ℕ). x ++ trackLines (toList img r)) (sym (block-lines kind p (e .track) read h (e .head)))
+          ∙ sym (append-assoc (trackLine (e .track)) (sectorLines (e .track .sectors)) (trackLines (toCome img r)))
+          ∙ ap (λ (x : List ℕ). x ++ trackLines (toCome img r)) (sym (block-lines kind p (e .track) read h (e .head)))
 
       pub walking-room : at + length (blockLines kind p h) ≤ length d
-      walking-room = left-room d₀ place _ d at (trackLines (toList img w)) (l .left) room (blockLines kind p h) (trackLines (toList img r)) first
+      walking-room = left-room d₀ place _ d at (trackLines (toCome img w)) (l .left) room (blockLines kind p h) (trackLines (toCome img r)) first
 
       pub walking-track : (d′ : List ℕ) (a : ℕ) → Laid d at (blockLines kind p h) d′ a → Walking img d₀ place start kind d′ r a
       walking-track d′ a x = record {
         same-kind = e .moved .kind ∙ l .same-kind;
         whole = rest .0;
-        left = left-again d₀ place _ d at (trackLines (toList img w)) (l .left) room (blockLines kind p h) (trackLines (toList img r)) first d′ a x;
+        left = left-again d₀ place _ d at (trackLines (toCome img w)) (l .left) room (blockLines kind p h) (trackLines (toCome img r)) first d′ a x;
       }

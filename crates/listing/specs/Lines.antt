@@ -4,10 +4,9 @@ use mathlib.Core.Path.{_≡_}
 use mathlib.Core.List.{List, [], _++_}
 use lib.ListN.{length}
 use Rattle.buffer.specs.Over.{over}
-use Rattle.image.specs.Refusals.{Result, refused, good}
-use Rattle.image.specs.Model.{Disk}
+use Rattle.image.specs.Refusals.{good}
 use Rattle.image.specs.Dsk.{rowOf}
-use Rattle.image.specs.Calls.{leftOf}
+use Rattle.image.specs.Calls.{leftOf, toCome}
 use Rattle.image.specs.declared.walk.Kind.{Kind}
 use Rattle.image.specs.declared.walk.Walk.{Walk}
 use Rattle.image.specs.declared.walk.Head.{Head}
@@ -39,15 +38,7 @@ rowLines kind b k (suc left) = rowLine (rowOf kind b k) ++ rowLines kind b (k + 
 abbrev pub blockLines : Kind → List ℕ → Head → List ℕ
 blockLines kind b h = headLine h ++ rowLines kind b 0 (h .sectors)
 
--- the disk of a good result, and the tracks that a walk has still to hand out, read as good before
-abbrev pub theDisk : Result Disk → Disk
-theDisk (refused why) = []
-theDisk (good d) = d
-
-abbrev pub toList : List ℕ → Walk → Disk
-toList b w = theDisk (leftOf b w)
-
 -- a walk whose tracks are good and whose lines find room from a place on
 pub record Listable (b : List ℕ) (w : Walk) (at room : ℕ) : Type 0 where
-  pub whole : leftOf b w ≡ good (toList b w)
-  pub lines : at + length (trackLines (toList b w)) ≤ room
+  pub whole : leftOf b w ≡ good (toCome b w)
+  pub lines : at + length (trackLines (toCome b w)) ≤ room

@@ -13,7 +13,8 @@ ghost use mathlib.Core.List.{_++_};
 ghost use lib.ListN.{length, drop};
 ghost use Rattle.image.specs.Refusals.{refused};
 ghost use Rattle.listing.specs.Text.{diskWord, kindWord, decimal, copies, trackLines, printedAs, idText};
-ghost use Rattle.listing.specs.Lines.{Laid, rowLine, headLine, totalsLine, rowLines, blockLines, toList, Listable};
+ghost use Rattle.image.specs.Calls.{toCome};
+ghost use Rattle.listing.specs.Lines.{Laid, rowLine, headLine, totalsLine, rowLines, blockLines, Listable};
 
 // Writes the digits of a number at the end of `digits`, and answers where they begin.
 fn write_digits(digits: &mut [u8], n: usize) -> usize
@@ -147,7 +148,7 @@ fn put_track(out: &mut [u8], at: usize, kind: Kind, block: &[u8], head: Head) ->
 // Lays the tracks that a walk has still to hand out.
 pub fn put_tracks(out: &mut [u8], place: usize, image: &[u8], start: Walk) -> usize
     requires { ⌜ Listable (now image) start place (length (now out)) ⌝ }
-    ensures { λ r. ⌜ Laid (now (out .entry)) place (trackLines (toList (now (image .entry)) start)) (now (out .exit)) r ⌝ }
+    ensures { λ r. ⌜ Laid (now (out .entry)) place (trackLines (toCome (now (image .entry)) start)) (now (out .exit)) r ⌝ }
 {
     let kind = start.kind;
     let mut walk = start;

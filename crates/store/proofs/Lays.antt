@@ -9,20 +9,19 @@ use lib.ListN.{length, take, drop, replicate, length-append, length-take, length
 use lib.Seq.{take-add, drop-drop, take-append-add}
 use Rattle.buffer.specs.Over.{over}
 use Rattle.buffer.proofs.Overs.{over-over, over-nil, over-length}
-use Rattle.image.specs.Refusals.{Result, refused, good}
+use Rattle.image.specs.Refusals.{good}
 use Rattle.image.specs.Bytes.{byteAt}
 use Rattle.image.specs.Model.{sizeOf, Sector, Track, Disk, total, trackBytes, sectorCount, byteCount}
-use Rattle.image.specs.Dsk.{rowOf, sectorOf, sectorsFrom, storedFrom, trackIn, trackOf, before}
-use Rattle.image.specs.Calls.{headOf, leftOf}
+use Rattle.image.specs.Dsk.{rowOf, sectorOf, sectorsFrom, storedFrom, trackIn, trackOf}
+use Rattle.image.specs.Calls.{headOf}
 use Rattle.image.specs.declared.walk.Kind.{Kind}
-use Rattle.image.specs.declared.walk.Walk.{Walk}
 use Rattle.image.specs.declared.walk.Head.{Head}
 use Rattle.image.specs.declared.walk.Row.{Row}
 use Rattle.image.proofs.Tracks.{down, whole-part, sectors-length, contents-whole, track-good}
 use Rattle.store.proofs.Rounds.{rows-length, rows-before, contents-length}
 use Rattle.store.specs.Store.{rowFor, rowsFor, tracksFor, tableOf, contents, dataOf}
 use Rattle.store.specs.Fresh.{blank, blanksFrom, formatted, freshFrom}
-use Rattle.store.specs.Laying.{headBytes, rowBytes, listFrom, trackFor, formattedBy, theDisk, toLay, Layable}
+use Rattle.store.specs.Laying.{headBytes, rowBytes, listFrom, trackFor, formattedBy, Layable}
 
 -- ---- one part behind another
 

@@ -10,9 +10,9 @@ use borrow.Author.Tests.{eq-eqb, ne-eqb, le-leb, lt-leb, leb-true}
 use Rattle.buffer.specs.Over.{over}
 use Rattle.buffer.proofs.Overs.{over-over, over-set, over-length}
 use Rattle.image.specs.Refusals.{Result, refused, good, need, after}
-use Rattle.image.specs.Model.{Sector, Track, Disk, total, trackBytes, sectorCount, byteCount}
-use Rattle.image.specs.Dsk.{Dsk, entries, trackOf, before, tracksFrom, imageOf, dskOf, headerOf}
-use Rattle.image.specs.Calls.{headOf, leftOf, openedOf}
+use Rattle.image.specs.Model.{Track, Disk, total, trackBytes, sectorCount, byteCount}
+use Rattle.image.specs.Dsk.{Dsk, trackOf, dskOf, headerOf}
+use Rattle.image.specs.Calls.{leftOf, tracksIn, toCome, openedOf}
 use Rattle.image.specs.Calls as image
 use Rattle.image.specs.declared.refusal.Refusal.{Refusal}
 use Rattle.image.specs.declared.refusal.Refusal.the-variants.{BadStore, TooManyTracks, TooManySectors, NoRoom}
@@ -24,11 +24,11 @@ use Rattle.image.specs.declared.walk.Surveyed.the-variants as surveyed
 use Rattle.image.specs.declared.walk.Opened.{Opened}
 use Rattle.image.specs.declared.walk.Opened.the-variants as opened
 use Rattle.image.specs.declared.walk.Step.the-variants as step
-use Rattle.image.proofs.Steps.{Says, opened-dsk}
+use Rattle.image.proofs.Steps.{Says, come-split, read-opens, read-whole}
 use Rattle.store.specs.Store.{tableLength, roomOf, tracksFor, tableOf, contents, dataOf}
 use Rattle.store.specs.Fresh.{fresh, freshFrom}
 use Rattle.store.specs.Calls.{outcome, laid, within, fitting, loadOf, freshOf}
-use Rattle.store.specs.Laying.{headBytes, listFrom, trackFor, theDisk, toLay, Layable, doneOf, capacityOf}
+use Rattle.store.specs.Laying.{headBytes, listFrom, trackFor, Layable, doneOf, capacityOf}
 use Rattle.store.specs.declared.answer.Done.the-variants as done
 use Rattle.store.proofs.Rounds.{contents-length}
 use Rattle.store.proofs.Lays.{lay-on, lay-none, tracks-append, track-length, track-laid, bytes-laid, fresh-tracks, fresh-sectors, fresh-bytes}
@@ -87,21 +87,8 @@ pub record Laying (img t₀ b₀ : List ℕ) (start : Walk) (kind : Kind) (t b :
   pub same-table : length t ≡ length t₀
   pub same-bytes : length b ≡ length b₀
   pub layable : Layable img w at place (length t₀) (length b₀)
-  pub rows : over t at (tracksFor (toLay img w) []) ≡ over t₀ 1 (tracksFor (toLay img start) [])
-  pub bytes : over b place (dataOf (toLay img w)) ≡ over b₀ 0 (dataOf (toLay img start))
-
--- a track before the rest, both read as good
-split : (img : List ℕ) (w r : Walk) (tr : Track) → leftOf img w ≡ before tr (leftOf img r) → leftOf img w ≡ good (toLay img w)
-    → (leftOf img r ≡ good (toLay img r)) × (toLay img w ≡ tr ∷ toLay img r)
-split img w r tr e f = by (leftOf img r) refl
-  where
-    by : (q : Result Disk) → leftOf img r ≡ q → (q ≡ good (theDisk q)) × (toLay img w ≡ tr ∷ theDisk q)
-    by (refused why) g =
-        let x : before tr (leftOf img r) ≡ refused why = ap (before tr) g in
-        let z : _≡_ {A = ℕ} 0 1 = cc in absurd (omega arith)
-    by (good d) g =
-        let x : leftOf img w ≡ good (tr ∷ d) = e ∙ ap (before tr) g in
-        (refl, ap theDisk x)
+  pub rows : over t at (tracksFor (toCome img w) []) ≡ over t₀ 1 (tracksFor (toCome img start) [])
+  pub bytes : over b place (dataOf (toCome img w)) ≡ over b₀ 0 (dataOf (toCome img start))
 
 module _ (img t₀ b₀ : List ℕ) (start : Walk) (kind : Kind) where
   pub laying-start : start .kind ≡ kind → Layable img start 1 0 (length t₀) (length b₀) → Laying img t₀ b₀ start kind t₀ b₀ start 1 0
@@ -110,19 +97,19 @@ module _ (img t₀ b₀ : List ℕ) (start : Walk) (kind : Kind) where
   module _ (t b : List ℕ) (w : Walk) (at place : ℕ) (l : Laying img t₀ b₀ start kind t b w at place) where
     -- an image that was read as good is not refused now
     pub laying-never : (why : Refusal) → Says img w (step.Refused why) → ⊥
-    laying-never why e = let x : leftOf img w ≡ good (toLay img w) = l .layable .whole in let z : _≡_ {A = ℕ} 0 1 = cc in omega arith
+    laying-never why e = let x : leftOf img w ≡ good (toCome img w) = l .layable .whole in let z : _≡_ {A = ℕ} 0 1 = cc in omega arith
 
-    pub laying-end : Says img w step.End → (t ≡ over t₀ 1 (tracksFor (toLay img start) [])) × (b ≡ over b₀ 0 (dataOf (toLay img start)))
+    pub laying-end : Says img w step.End → (t ≡ over t₀ 1 (tracksFor (toCome img start) [])) × (b ≡ over b₀ 0 (dataOf (toCome img start)))
     unfolding tracksFor dataOf
     laying-end e =
-        let n : toLay img w ≡ [] = ap theDisk e in (
-          lay-none t at (tracksFor (toLay img w) []) _ (l .rows) (ap (λ (d : Disk). tracksFor d []) n),
-          lay-none b place (dataOf (toLay img w)) _ (l .bytes) (ap dataOf n),
+        let n : toCome img w ≡ [] = ap tracksIn e in (
+          lay-none t at (tracksFor (toCome img w) []) _ (l .rows) (ap (λ (d : Disk). tracksFor d []) n),
+          lay-none b place (dataOf (toCome img w)) _ (l .bytes) (ap dataOf n),
         )
 
     pub laying-absent : (r : Walk) → Says img w (step.Absent r) → Laying img t₀ b₀ start kind t b r at place
     laying-absent r e =
-        let q : toLay img r ≡ toLay img w = ap theDisk (sym (e .1)) in
+        let q : toCome img r ≡ toCome img w = ap tracksIn (sym (e .1)) in
         record {
           same-kind = e .0 .kind ∙ l .same-kind;
           same-table = l .same-table;
@@ -137,8 +124,8 @@ module _ (img t₀ b₀ : List ℕ) (start : Walk) (kind : Kind) where
         }
 
     module _ (h : Head) (r : Walk) (e : Says img w (step.Track h r)) where
-      rest : (leftOf img r ≡ good (toLay img r)) × (toLay img w ≡ e .track ∷ toLay img r)
-      rest = split img w r (e .track) (e .left) (l .layable .whole)
+      rest : (leftOf img r ≡ good (toCome img r)) × (toCome img w ≡ e .track ∷ toCome img r)
+      rest = come-split img w r (e .track) (e .left) (l .layable .whole)
 
       sectors-are : h .sectors ≡ length (e .track .sectors)
       sectors-are = ap (λ (x : Head). x .sectors) (e .head)
@@ -147,16 +134,16 @@ module _ (img t₀ b₀ : List ℕ) (start : Walk) (kind : Kind) where
       stored-is = ap (λ (x : Head). x .stored) (e .head)
 
       -- the track and what follows it find room
-      pub laying-rows : at + 6 + 8 * h .sectors + 6 * length (toLay img r) + 8 * sectorCount (toLay img r) ≤ length t₀
+      pub laying-rows : at + 6 + 8 * h .sectors + 6 * length (toCome img r) + 8 * sectorCount (toCome img r) ≤ length t₀
       unfolding total
       laying-rows =
-          let x : at + 6 * length (e .track ∷ toLay img r) + 8 * sectorCount (e .track ∷ toLay img r) ≤ length t₀ = rw (rest .1) at (l .layable .rows) in
+          let x : at + 6 * length (e .track ∷ toCome img r) + 8 * sectorCount (e .track ∷ toCome img r) ≤ length t₀ = rw (rest .1) at (l .layable .rows) in
           omega (arith, sectors-are)
 
-      pub laying-bytes : place + h .stored + byteCount (toLay img r) ≤ length b₀
+      pub laying-bytes : place + h .stored + byteCount (toCome img r) ≤ length b₀
       unfolding total
       laying-bytes =
-          let x : place + byteCount (e .track ∷ toLay img r) ≤ length b₀ = rw (rest .1) at (l .layable .bytes) in
+          let x : place + byteCount (e .track ∷ toCome img r) ≤ length b₀ = rw (rest .1) at (l .layable .bytes) in
           omega (arith, stored-is)
 
       pub laying-track : (p t′ b′ : List ℕ) → p ≡ drop (w .at) img → t′ ≡ over t at (headBytes h ++ listFrom kind p 0 (h .sectors))
@@ -179,13 +166,13 @@ module _ (img t₀ b₀ : List ℕ) (start : Walk) (kind : Kind) where
             same-bytes = ap length eb′ ∙ over-length b place (contents (tr .sectors)) (omega (arith, l .same-bytes, laying-bytes)) ∙ l .same-bytes;
             layable = record { whole = rest .0; rows = omega (arith, laying-rows); bytes = omega (arith, laying-bytes) };
             rows =
-                ap (λ (z : List ℕ). over z (at + (6 + 8 * h .sectors)) (tracksFor (toLay img r) [])) et′
-                ∙ lay-on t at (trackFor tr) (tracksFor (toLay img r) []) _ (at + (6 + 8 * h .sectors))
-                (ap (over t at) (sym (tracks-append tr (toLay img r)) ∙ ap (λ (d : Disk). tracksFor d []) (sym (rest .1))) ∙ l .rows)
+                ap (λ (z : List ℕ). over z (at + (6 + 8 * h .sectors)) (tracksFor (toCome img r) [])) et′
+                ∙ lay-on t at (trackFor tr) (tracksFor (toCome img r) []) _ (at + (6 + 8 * h .sectors))
+                (ap (over t at) (sym (tracks-append tr (toCome img r)) ∙ ap (λ (d : Disk). tracksFor d []) (sym (rest .1))) ∙ l .rows)
                 (omega arith) (omega (arith, l .same-table, laying-rows));
             bytes =
-                ap (λ (z : List ℕ). over z (place + h .stored) (dataOf (toLay img r))) eb′
-                ∙ lay-on b place (contents (tr .sectors)) (dataOf (toLay img r)) _ (place + h .stored)
+                ap (λ (z : List ℕ). over z (place + h .stored) (dataOf (toCome img r))) eb′
+                ∙ lay-on b place (contents (tr .sectors)) (dataOf (toCome img r)) _ (place + h .stored)
                 (ap (over b place) (ap dataOf (sym (rest .1))) ∙ l .bytes) (omega arith) (omega (arith, l .same-bytes, laying-bytes));
           }
 
@@ -248,38 +235,27 @@ module _ (img t b : List ℕ) (n : Totals) (s : Surveyed img n) (h : length t �
     pub load-few : n .tracks ≤ 204
     load-few = inside .1 .0
 
-    -- an image that was read opens
     pub load-never : (why : Refusal) → o ≡ opened.Refused why → ⊥
-    unfolding dskOf
-    load-never why f = told (headerOf img) (sym eo ∙ f) (s .read)
-      where
-        told : (k : Result Kind) → openedOf img k ≡ opened.Refused why → after k (λ kind. imageOf kind (tracksFrom kind img 0 0x100 (entries img))) ≡ good (s .dsk) → ⊥
-        told (refused y) p q = let z : _≡_ {A = ℕ} 0 1 = cc in omega arith
-        told (good k) p q = let z : _≡_ {A = ℕ} 0 1 = cc in omega arith
+    load-never = read-opens img (s .dsk) (s .read) o eo
 
     module _ (w : Walk) (f : o ≡ opened.Ready w) where
-      -- what the walk has to hand out is the disk
       whole : leftOf img w ≡ good (s .dsk .disk)
-      whole = told (leftOf img w) (sym (opened-dsk img o eo w f) ∙ s .read)
-        where
-          told : (q : Result Disk) → imageOf (w .kind) q ≡ good (s .dsk) → q ≡ good (s .dsk .disk)
-          told (refused y) p = cc
-          told (good d) p = let x : record { kind = w .kind; disk = d } ≡ s .dsk = cc in ap (λ (y : Dsk). good (y .disk)) x
+      whole = read-whole img (s .dsk) (s .read) o eo w f
 
       pub load-layable : (t′ : List ℕ) → length t′ ≡ length t → Layable img w 1 0 (length t′) (length b)
       load-layable t′ l =
-          let d : toLay img w ≡ s .dsk .disk = ap theDisk whole in
+          let d : toCome img w ≡ s .dsk .disk = ap tracksIn whole in
           record {
             whole = whole ∙ ap good (sym d);
             rows = rw d (omega (arith, inside .1, s .tracks, s .sectors));
             bytes = rw d (omega (arith, inside .1, s .bytes, room-inside b));
           }
 
-      pub load-good : (t′ b′ : List ℕ) → t′ ≡ over (set t 0 (n .tracks)) 1 (tracksFor (toLay img w) []) → b′ ≡ over b 0 (dataOf (toLay img w))
+      pub load-good : (t′ b′ : List ℕ) → t′ ≡ over (set t 0 (n .tracks)) 1 (tracksFor (toCome img w) []) → b′ ≡ over b 0 (dataOf (toCome img w))
           → outcome done.Good t′ b′ ≡ loadOf img t b
       unfolding tableOf
       load-good t′ b′ et eb =
-          let d : toLay img w ≡ s .dsk .disk = ap theDisk whole in
+          let d : toCome img w ≡ s .dsk .disk = ap tracksIn whole in
           let x : t′ ≡ over t 0 (tableOf (s .dsk .disk)) =
           et ∙ (λ i. over (set t 0 (s .tracks i)) 1 (tracksFor (d i) []))
           ∙ count-first t (length (s .dsk .disk)) (tracksFor (s .dsk .disk) []) (omega arith) in

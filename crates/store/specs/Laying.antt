@@ -4,9 +4,9 @@ use mathlib.Core.List.{List, [], _∷_, _++_}
 use mathlib.Core.Path.{_≡_}
 use lib.ListN.{length}
 use Rattle.image.specs.Refusals.{Result, refused, good}
-use Rattle.image.specs.Model.{Track, Disk, sectorCount, byteCount}
+use Rattle.image.specs.Model.{Track, sectorCount, byteCount}
 use Rattle.image.specs.Dsk.{rowOf}
-use Rattle.image.specs.Calls.{leftOf}
+use Rattle.image.specs.Calls.{leftOf, toCome}
 use Rattle.image.specs.declared.walk.Kind.{Kind}
 use Rattle.image.specs.declared.walk.Walk.{Walk}
 use Rattle.image.specs.declared.walk.Head.{Head}
@@ -38,20 +38,11 @@ trackFor t = tracksFor (t ∷ []) []
 abbrev pub formattedBy : Head → Track
 formattedBy h = formatted (h .cylinder) (h .side) (h .size) (h .sectors) (h .gap) (h .filler)
 
--- the disk of a good result
-abbrev pub theDisk : Result Disk → Disk
-theDisk (refused why) = []
-theDisk (good d) = d
-
--- the tracks that a walk has still to hand out, read as good before
-abbrev pub toLay : List ℕ → Walk → Disk
-toLay b w = theDisk (leftOf b w)
-
 -- a walk whose tracks are good and find room from a place of the table and one of the data buffer on
 pub record Layable (b : List ℕ) (w : Walk) (at place long room : ℕ) : Type 0 where
-  pub whole : leftOf b w ≡ good (toLay b w)
-  pub rows : at + 6 * length (toLay b w) + 8 * sectorCount (toLay b w) ≤ long
-  pub bytes : place + byteCount (toLay b w) ≤ room
+  pub whole : leftOf b w ≡ good (toCome b w)
+  pub rows : at + 6 * length (toCome b w) + 8 * sectorCount (toCome b w) ≤ long
+  pub bytes : place + byteCount (toCome b w) ≤ room
 
 -- whether the capacities allow so much
 abbrev pub doneOf : Result (Unit {0}) → Done

@@ -21,12 +21,12 @@ ghost use lib.ListN.{length, take, drop};
 ghost use Rattle.buffer.specs.Over.{over};
 ghost use Rattle.image.specs.Model.{sizeOf};
 ghost use Rattle.image.specs.Dsk.{dskOf};
-ghost use Rattle.image.specs.Calls.{surveyOf};
+ghost use Rattle.image.specs.Calls.{surveyOf, toCome};
 ghost use Rattle.store.specs.Store.{tracksFor, contents, dataOf};
 ghost use Rattle.store.specs.Fresh.{blanksFrom, freshFrom};
 ghost use Rattle.store.specs.Store.{rowsFor};
 ghost use Rattle.store.specs.Calls.{outcome, loadOf, freshOf};
-ghost use Rattle.store.specs.Laying.{headBytes, rowBytes, listFrom, trackFor, formattedBy, toLay, Layable, capacityOf};
+ghost use Rattle.store.specs.Laying.{headBytes, rowBytes, listFrom, trackFor, formattedBy, Layable, capacityOf};
 
 // Lays a track's six bytes.
 fn put_head(table: &mut [u8], at: usize, head: Head)
@@ -103,7 +103,7 @@ fn lay_track(
 // Lays the tracks that a walk has still to hand out, behind the count of tracks and from the start of the data buffer.
 fn lay_tracks(image: &[u8], start: Walk, table: &mut [u8], bytes: &mut [u8])
     requires { ⌜ Layable (now image) start 1 0 (length (now table)) (length (now bytes)) ⌝ }
-    ensures { λ _. ⌜ (now (table .exit) ≡ over (now (table .entry)) 1 (tracksFor (toLay (now (image .entry)) start) [])) × (now (bytes .exit) ≡ over (now (bytes .entry)) 0 (dataOf (toLay (now (image .entry)) start))) ⌝ }
+    ensures { λ _. ⌜ (now (table .exit) ≡ over (now (table .entry)) 1 (tracksFor (toCome (now (image .entry)) start) [])) × (now (bytes .exit) ≡ over (now (bytes .entry)) 0 (dataOf (toCome (now (image .entry)) start))) ⌝ }
 {
     let kind = start.kind;
     let mut walk = start;

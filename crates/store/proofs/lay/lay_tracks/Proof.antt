@@ -1,7 +1,7 @@
 use mathlib.Core.Path.{refl}
 use lib.ListN.{length}
 use Rattle.image.specs.Model.{sectorCount, byteCount}
-use Rattle.store.specs.Laying.{toLay}
+use Rattle.image.specs.Calls.{toCome}
 use Prim.Native.Nat.{_+_, _-_, _*_, _≤_}
 use native.Mathlib.Omega.{arith}
 use Rattle.image.specs.declared.walk.Step.the-variants as step
@@ -24,12 +24,12 @@ handed : (c : tie.After-head Inv-loop μ-loop)
 handed c = says-of _ _ _ _ (c .before .before .step .ensures) (c .head .given .1)
 
 rows : (c : tie.After-head Inv-loop μ-loop)
-    → c .before .before .before .loop .at + 6 + 8 * c .head .given .0 .0 .sectors + 6 * length (toLay (c .before .before .before .before .before .before .before .args .image .now) (c .head .given .0 .1 .0))
-    + 8 * sectorCount (toLay (c .before .before .before .before .before .before .before .args .image .now) (c .head .given .0 .1 .0)) ≤ length (c .before .before .before .before .before .before .before .args .table .now)
+    → c .before .before .before .loop .at + 6 + 8 * c .head .given .0 .0 .sectors + 6 * length (toCome (c .before .before .before .before .before .before .before .args .image .now) (c .head .given .0 .1 .0))
+    + 8 * sectorCount (toCome (c .before .before .before .before .before .before .before .args .image .now) (c .head .given .0 .1 .0)) ≤ length (c .before .before .before .before .before .before .before .args .table .now)
 rows c = laying-rows _ _ _ _ _ _ _ _ _ _ (c .before .before .before .loop .inv) _ _ (handed c)
 
 bytes : (c : tie.After-head Inv-loop μ-loop)
-    → c .before .before .before .loop .place + c .head .given .0 .0 .stored + byteCount (toLay (c .before .before .before .before .before .before .before .args .image .now) (c .head .given .0 .1 .0))
+    → c .before .before .before .loop .place + c .head .given .0 .0 .stored + byteCount (toCome (c .before .before .before .before .before .before .before .args .image .now) (c .head .given .0 .1 .0))
     ≤ length (c .before .before .before .before .before .before .before .args .bytes .now)
 bytes c = laying-bytes _ _ _ _ _ _ _ _ _ _ (c .before .before .before .loop .inv) _ _ (handed c)
 

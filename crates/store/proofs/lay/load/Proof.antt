@@ -4,9 +4,10 @@ use Prim.Native.Nat.{ℕ, _≤_}
 use native.Mathlib.Omega.{arith}
 use lib.ListN.{length, set, length-set}
 use Rattle.buffer.specs.Over.{over}
+use Rattle.image.specs.Calls.{toCome}
 use Rattle.store.specs.Store.{tracksFor, dataOf}
 use Rattle.store.specs.Calls.{outcome, loadOf}
-use Rattle.store.specs.Laying.{toLay, Layable}
+use Rattle.store.specs.Laying.{Layable}
 use Rattle.store.specs.declared.answer.Done.the-variants.{Good}
 use Rattle.store.proofs.Loads.{surveyed-good, load-refused, load-few, load-never, load-layable, load-good}
 use borrow.Author.Needs.{needs}
@@ -25,8 +26,8 @@ layable c t e =
     (c .before .before .open .ensures) _ (c .walk .given .1) t e
 
 finished : (c : tie.After-walk) (t b : List ℕ)
-    → t ≡ over (set (c .before .before .before .before .before .before .before .before .before .before .before .args .table .now) 0 (c .before .before .before .before .before .before .before .before .before .before .before .args .totals .tracks)) 1 (tracksFor (toLay (c .before .before .before .before .before .before .before .before .before .before .before .args .image .now) (c .walk .given .0 .0)) [])
-    → b ≡ over (c .before .before .before .before .before .before .before .before .before .before .before .args .bytes .now) 0 (dataOf (toLay (c .before .before .before .before .before .before .before .before .before .before .before .args .image .now) (c .walk .given .0 .0)))
+    → t ≡ over (set (c .before .before .before .before .before .before .before .before .before .before .before .args .table .now) 0 (c .before .before .before .before .before .before .before .before .before .before .before .args .totals .tracks)) 1 (tracksFor (toCome (c .before .before .before .before .before .before .before .before .before .before .before .args .image .now) (c .walk .given .0 .0)) [])
+    → b ≡ over (c .before .before .before .before .before .before .before .before .before .before .before .args .bytes .now) 0 (dataOf (toCome (c .before .before .before .before .before .before .before .before .before .before .before .args .image .now) (c .walk .given .0 .0)))
     → outcome Good t b ≡ loadOf (c .before .before .before .before .before .before .before .before .before .before .before .args .image .now) (c .before .before .before .before .before .before .before .before .before .before .before .args .table .now) (c .before .before .before .before .before .before .before .before .before .before .before .args .bytes .now)
 finished c t b e f =
     load-good _ (c .before .before .before .before .before .before .before .before .before .before .before .args .table .now) _ _ (surveyed-good _ _ (c .before .before .before .before .before .before .before .before .before .before .before .pre .1)) (c .before .before .before .before .before .before .before .before .before .before .before .pre .0) _ (c .before .before .before .before .before .before .room-of .ensures .0) (sym (c .before .before .before .before .before .capacity .ensures) ∙ c .before .before .before .enum-told .given .1) _
