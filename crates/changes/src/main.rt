@@ -2,7 +2,7 @@
 // says, and prints what each call answers and what the disk then holds, in the form in which the Rust's own answers
 // stand in `stdout`. docs/ORACLE.md has both forms. The store is not cleared between two scripts.
 ghost use Prim.Native.Nat.{_+_, _*_, _<_, _≤_};
-use image::SectorId;
+use fields::SectorId;
 use libc::STDERR_FILENO;
 
 // More scripts than any list has.
@@ -21,14 +21,14 @@ fn show_fields(fields: &[u8], count: usize) {
 }
 
 fn field_at(fields: &[u8], at: usize) -> u8 {
-    image::byte(fields, at) as u8
+    fields::byte(fields, at) as u8
 }
 
 // The number in the two bytes at a place, 0 where they are not all there.
 fn word_at(fields: &[u8], at: usize) -> usize {
-    match image::read_u16(fields, at) {
-        image::Read::Refused(_) => 0,
-        image::Read::Number(n) => n as usize,
+    match fields::read_u16(fields, at) {
+        fields::Read::Refused(_) => 0,
+        fields::Read::Number(n) => n as usize,
     }
 }
 
@@ -42,7 +42,7 @@ fn id_of(fields: &[u8]) -> SectorId {
     }
 }
 
-fn refused(why: image::Refusal) {
+fn refused(why: fields::Refusal) {
     replay::put(b" ");
     replay::refused(why);
 }
@@ -62,7 +62,7 @@ fn done(table: &[u8], bytes: &[u8]) {
 fn format(fields: &[u8], table: &mut [u8], bytes: &mut [u8]) {
     replay::put(b"format");
     show_fields(fields, 6);
-    let track = disk::Format {
+    let track = formatting::Format {
         cylinder: field_at(fields, 1),
         side: field_at(fields, 0),
         size: field_at(fields, 2),
@@ -70,7 +70,7 @@ fn format(fields: &[u8], table: &mut [u8], bytes: &mut [u8]) {
         gap: field_at(fields, 4),
         filler: field_at(fields, 5),
     };
-    match disk::set_track(table, bytes, track) {
+    match formatting::set_track(table, bytes, track) {
         store::Done::Refused(why) => refused(why),
         store::Done::Good => done(table, bytes),
     }
@@ -95,7 +95,7 @@ fn save(fields: &[u8], table: &mut [u8], bytes: &mut [u8], new: &mut [u8]) {
     show_fields(fields, 6);
     replay::field(len as u64);
     replay::field(replay::byte(fields, 8));
-    fill_pattern(new, image::byte(fields, 8));
+    fill_pattern(new, fields::byte(fields, 8));
     let side = field_at(fields, 0);
     let cylinder = field_at(fields, 1);
     match disk::save(
@@ -137,7 +137,7 @@ fn read_into(fields: &[u8], table: &[u8], bytes: &[u8], transfer: &mut [u8]) {
     let side = field_at(fields, 0);
     let cylinder = field_at(fields, 1);
     let eot = field_at(fields, 6);
-    match disk::read(table, bytes, side, cylinder, id_of(fields), eot, transfer) {
+    match serving::read(table, bytes, side, cylinder, id_of(fields), eot, transfer) {
         disk::Reading::Refused(why) => refused(why),
         disk::Reading::Missing => replay::put(b" missing\n"),
         disk::Reading::Good(served) => show_served(served, transfer),
@@ -254,9 +254,9 @@ fn operations(table: &mut [u8], bytes: &mut [u8], work: &mut [u8]) -> bool {
 // The disk that a script begins with: a fresh one where it has no image.
 fn start(image: &[u8], table: &mut [u8], bytes: &mut [u8]) -> store::Done {
     if image.len() == 0 {
-        return store::new_formatted(table, bytes);
+        return loading::new_formatted(table, bytes);
     }
-    store::new(image, table, bytes)
+    loading::new(image, table, bytes)
 }
 
 // Runs a script of this name on this disk; no where the list ends inside it.

@@ -4,19 +4,17 @@ use Prim.Native.Nat.{ℕ, _+_, _%_, _≤_}
 use native.Mathlib.Omega.{arith}
 use mathlib.Core.Bool.{Bool, true, false, cond, _&&_}
 use mathlib.Core.List.{List, [], _∷_}
-use mathlib.Core.Option.{Option, none, some}
 use lib.ListN.{length}
 use lib.Dec.{eqb, leb}
 use borrow.Author.Tests.{eq-eqb, ne-eqb, le-leb, leb-true}
 use Rattle.buffer.specs.Over.{over}
-use Rattle.image.specs.Refusals.{Result, refused, good, need, after}
-use Rattle.image.specs.Model.{Sector, Track, Disk, byteCount}
-use Rattle.image.specs.declared.id.SectorId.{SectorId}
-use Rattle.image.specs.declared.refusal.Refusal.{Refusal}
-use Rattle.image.specs.declared.refusal.Refusal.the-variants.{NoTransferRoom, NoRoom}
+use Rattle.fields.specs.Refusals.{Result, refused, good, need, after}
+use Rattle.fields.specs.Model.{Sector, Disk, byteCount}
+use Rattle.fields.specs.declared.id.SectorId.{SectorId}
+use Rattle.fields.specs.declared.refusal.Refusal.the-variants.{NoTransferRoom, NoRoom}
 use Rattle.store.specs.Find.{Found, nothing, found}
 use Rattle.store.specs.Search.{sectorAt, sectorByIndex, readAt}
-use Rattle.store.specs.Store.{roomOf, transferRoom, contents, tableOf, dataOf, diskOf}
+use Rattle.store.specs.Store.{roomOf, transferRoom, contents, diskOf}
 use Rattle.store.specs.Fresh.{formatted}
 use Rattle.disk.specs.Change.{saved, setTrack}
 use Rattle.store.specs.Calls as looks
@@ -33,10 +31,10 @@ use Rattle.store.specs.declared.answer.Done.{Done}
 use Rattle.store.specs.declared.answer.Done.the-variants as finished
 use Rattle.registers.specs.declared.regs.Regs.{Regs}
 use Rattle.registers.specs.declared.regs.Written.{Written}
-use Rattle.registers.specs.Boxes.{Slot, Empty, Holds, Change, Turn, Start, Finish, Shift, Stay, Reply, Serve, Effect}
+use Rattle.registers.specs.Boxes.{Slot, Empty, Holds, Turn, Start, Finish, Stay, Reply, Serve, Effect}
 use Rattle.commands.specs.Commands.{byte, idOf, sizesOf, u, headOf, named, inDrive, ready, does, puts, missing, seven, senseDrive, readReply, servedAs, readData, startAt, writeData, writeReply, saveAt, written, idAt, readId, formatTrack}
 use Rattle.registers.specs.Settle.{replied, withUnread, regsChanged, regsAll, regsShifted, regsOf}
-use Rattle.commands.specs.Lent.{Stored, tableAfter, dataAfter, transferAfter}
+use Rattle.commands.specs.Lent.{Stored, transferAfter}
 use Rattle.registers.specs.View.{slotIf, slotOf}
 
 -- ---- ready and not

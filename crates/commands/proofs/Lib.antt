@@ -1,5 +1,3 @@
--- Laws that more than one proof cites, and the theorems about the machine.
+-- Laws that more than one proof cites, and those that the crates above use.
 pub mod Effects
-pub mod Sends
-pub mod Seen
-pub mod Sessions
+pub mod Runs

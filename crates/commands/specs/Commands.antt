@@ -5,18 +5,18 @@ use mathlib.Core.List.{List, [], _∷_, _++_}
 use mathlib.Core.Option.{Option, none, some}
 use lib.ListN.{length, getD}
 use lib.Dec.{eqb, leb}
-use Rattle.image.specs.Refusals.{Result, refused, good, need, after}
-use Rattle.image.specs.Model.{sizeOf, Sector, Disk, total, byteCount}
-use Rattle.image.specs.declared.id.SectorId.{SectorId}
-use Rattle.image.specs.declared.refusal.Refusal.the-variants.{NoRoom, NoTransferRoom}
+use Rattle.fields.specs.Refusals.{Result, refused, good, need, after}
+use Rattle.fields.specs.Model.{sizeOf, Sector, Disk, total, byteCount}
+use Rattle.fields.specs.declared.id.SectorId.{SectorId}
+use Rattle.fields.specs.declared.refusal.Refusal.the-variants.{NoRoom, NoTransferRoom}
 use Rattle.store.specs.Find.{Found, nothing, found}
 use Rattle.store.specs.Search.{sectorAt, sectorByIndex, readAt}
 use Rattle.store.specs.Store.{contents}
 use Rattle.store.specs.Fresh.{formatted}
 use Rattle.disk.specs.Change.{saved, setTrack}
 use Rattle.store.specs.Calls.{fitting}
-use Rattle.registers.specs.declared.kind.Kind.{Kind}
-use Rattle.registers.specs.declared.kind.Kind.the-variants.{Specify, SenseDrive, Recalibrate, SenseInterrupt, SeekTo, Version, ReadData, ReadDeleted, WriteData, ReadId, FormatTrack, Unserved, Invalid}
+use Rattle.kinds.specs.declared.kind.Kind.{Kind}
+use Rattle.kinds.specs.declared.kind.Kind.the-variants.{Specify, SenseDrive, Recalibrate, SenseInterrupt, SeekTo, Version, ReadData, ReadDeleted, WriteData, ReadId, FormatTrack, Unserved, Invalid}
 use Rattle.registers.specs.Boxes.{Setting, Slot, Empty, Holds, Change, Clear, MoveTo, Turn, Start, Finish, Shift, Stay, Reply, ReplyIfNone, Seeking, Interrupt, Serve, Effect}
 
 -- ---- The parts of a command

@@ -1,34 +1,31 @@
 // The commands. Each takes what it needs of the command, and the store where it looks at it.
-use disk::Format;
 use disk::Reading;
 use disk::Served;
-use image::SectorId;
-use image::St1;
-use image::St2;
-use registers::Kind;
+use fields::SectorId;
+use fields::St1;
+use fields::St2;
+use formatting::Format;
+use kinds::Kind;
+use kinds::St0;
+use kinds::St3;
 use registers::Regs;
 use registers::Seek;
-use registers::St0;
-use registers::St3;
 use registers::Written;
-use registers::bytes_for;
-use registers::kind_of;
 use store::Done;
 use store::Has;
 use store::IdFound;
 ghost use mathlib.Core.Path.{_≡_};
 ghost use mathlib.Core.Bool.{_&&_};
-ghost use mathlib.Core.List.{List, _∷_, [], _++_};
+ghost use mathlib.Core.List.{_∷_, []};
 ghost use Prim.Native.Nat.{ℕ, _+_, _%_, _/_, _<_, _≤_};
 ghost use lib.ListN.{length, getD, take};
 ghost use lib.Dec.{eqb};
 ghost use Rattle.store.specs.Store.{roomOf, diskOf, transferRoom};
 ghost use Rattle.registers.specs.Boxes.{Interrupt, ReplyIfNone};
 ghost use Rattle.commands.specs.Commands.{idOf, named, missing, notReady, senseDrive, seekIf, endOf, markOf, readReply, readData, writeData, readId, formatTrack, obeyed};
-ghost use Rattle.commands.specs.Machine.{commandByte};
 ghost use Rattle.registers.specs.View.{settingOf, slotOf};
 ghost use Rattle.registers.specs.Settle.{replied, withUnread, regsShifted, regsOf};
-ghost use Rattle.commands.specs.Lent.{Filled, Stored, ran, ranOf, left, leftOf};
+ghost use Rattle.commands.specs.Lent.{Filled, Stored, ran, ranOf};
 
 // The sector that bytes 2 to 5 of a command name.
 fn sector_id(command: [u8; 9]) -> SectorId
@@ -233,7 +230,7 @@ fn read_data(
     }
     let d = regs.drive;
     let head = c1 / 4 % 2;
-    match disk::read(table, bytes, head, d.cylinder, id, command[6], transfer) {
+    match serving::read(table, bytes, head, d.cylinder, id, command[6], transfer) {
         Reading::Refused(why) => regs.refused(why),
         Reading::Missing => missing(regs, c1),
         Reading::Good(got) => served(regs, deleted, command, got),
@@ -268,7 +265,7 @@ fn format_track(regs: Regs, command: [u8; 9], table: &mut [u8], bytes: &mut [u8]
         gap: command[4],
         filler: command[5],
     };
-    match disk::set_track(table, bytes, format) {
+    match formatting::set_track(table, bytes, format) {
         Done::Refused(why) => regs.refused(why),
         Done::Good => regs.reply7(
             St0::from_c1(c1),
@@ -285,7 +282,7 @@ fn format_track(regs: Regs, command: [u8; 9], table: &mut [u8], bytes: &mut [u8]
 }
 
 // A whole command.
-fn run_cmd(
+pub fn run_cmd(
     regs: Regs,
     kind: Kind,
     command: [u8; 9],
@@ -310,24 +307,4 @@ fn run_cmd(
         Kind::Unserved => regs.done(),
         Kind::Invalid => regs.done(),
     }
-}
-
-// A byte of a command: the last one has it obeyed.
-pub fn maybe_run_cmd(
-    regs: Regs,
-    b: u8,
-    table: &mut [u8],
-    bytes: &mut [u8],
-    transfer: &mut [u8],
-) -> Written
-    requires { ⌜ regs .count < 9 ⌝ }
-    ensures { λ r. ⌜ ((h : List ℕ) → left r h (now (table .exit)) (now (bytes .exit)) (now (transfer .exit)) ≡ leftOf (commandByte (settingOf (now (bytes .entry)) (now (transfer .entry))) b (take (regs .count) (regs .command) ++ (b ∷ [])) (regs .drive .cylinder) (regs .index) (slotOf regs (now (table .entry)) (now (bytes .entry)))) regs h (now (table .entry)) (now (bytes .entry)) (now (transfer .entry))) ⌝ }
-{
-    let r = regs.added(b);
-    let command = r.command;
-    let kind = kind_of(command[0]);
-    if r.count != bytes_for(kind) {
-        return r.done();
-    }
-    regs.kept(run_cmd(r.cleared(), kind, command, table, bytes, transfer))
 }

@@ -1,7 +1,5 @@
-// The commands of the controller, and a byte sent to its data port, over registers by value; the held bytes of a write, table, data and transfer
-// buffer are lent.
+// The commands of the controller, over registers by value; table, data and transfer buffer are lent.
 mod command;
-mod write;
 
-// For the crates above only: it has a `requires`.
-pub use write::write_cmd;
+// For the crate above: a whole command, once its last byte has come.
+pub use command::run_cmd;

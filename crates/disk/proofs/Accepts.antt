@@ -8,10 +8,10 @@ use lib.ListN.{length}
 use lib.Dec.{leb}
 use borrow.Author.Tests.{leb-true}
 use Rattle.buffer.specs.Over.{over}
-use Rattle.image.specs.Refusals.{Result, refused, good, need}
-use Rattle.image.specs.Model.{Track, Disk, total, sectorCount, byteCount}
-use Rattle.image.specs.declared.id.SectorId.{SectorId}
-use Rattle.image.specs.declared.refusal.Refusal.{Refusal}
+use Rattle.fields.specs.Refusals.{Result, refused, good, need}
+use Rattle.fields.specs.Model.{Track, Disk, total, sectorCount, byteCount}
+use Rattle.fields.specs.declared.id.SectorId.{SectorId}
+use Rattle.fields.specs.declared.refusal.Refusal.{Refusal}
 use Rattle.store.specs.Store.{roomOf, tableOf, dataOf, diskOf}
 use Rattle.store.specs.Search.{isTrack, isSector}
 use Rattle.store.specs.Calls.{within, fitting}

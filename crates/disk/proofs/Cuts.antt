@@ -8,19 +8,19 @@ use lib.ListN.{length, take, drop, length-append}
 use lib.Seq.{slice, take-at, drop-at}
 use Rattle.buffer.specs.Over.{over}
 use Rattle.buffer.proofs.Overs.{over-join}
-use Rattle.image.specs.Model.{Sector, Track, Disk}
-use Rattle.image.specs.Dsk.{rowAt, sectorOf}
-use Rattle.image.specs.declared.id.SectorId.{SectorId}
+use Rattle.fields.specs.Model.{Sector, Track, Disk}
+use Rattle.tracks.specs.Block.{rowAt, sectorOf}
+use Rattle.fields.specs.declared.id.SectorId.{SectorId}
 use Rattle.store.specs.Search.{isTrack, isSector}
 use Rattle.store.specs.Store.{rowFor, rowsFor, tracksFor, contents, dataOf, sectorsAt, sumAt, countAt, nextAt, trackSum, trackAt, tracksAt, bytesAt}
 use Rattle.disk.specs.Change.{change}
 use Rattle.store.specs.Spots.{trackHere, rowHere, trackSpot, sectorSpot}
-use Rattle.store.specs.Laying.{trackFor}
+use Rattle.loading.specs.Laying.{trackFor}
 use Rattle.store.specs.declared.find.Spot.the-variants.{At}
 use Rattle.store.proofs.Rounds.{contents-length, over-front}
 use Rattle.store.proofs.Founds.{sectors-count}
 use Rattle.disk.proofs.Holds.{part-whole, sizes-are}
-use Rattle.store.proofs.Lays.{tracks-append, track-length}
+use Rattle.loading.proofs.Lays.{tracks-append, track-length}
 
 -- ---- a piece that is replaced
 

@@ -7,10 +7,10 @@ use mathlib.Core.List.{List, [], _∷_, _++_, append-assoc}
 use lib.ListN.{length, take, drop, length-take, length-drop, take-append-drop}
 use lib.Seq.{drop-cons, drop-drop}
 use Rattle.buffer.specs.Over.{over}
-use Rattle.image.specs.Bytes.{byteAt, numberAt}
-use Rattle.image.specs.Refusals.{good}
-use Rattle.image.specs.Model.{Sector, Disk, total, sectorCount, byteCount}
-use Rattle.image.specs.Dsk.{rowAt, sectorOf}
+use Rattle.fields.specs.Bytes.{byteAt, numberAt}
+use Rattle.fields.specs.Refusals.{good}
+use Rattle.fields.specs.Model.{Sector, Disk, total, sectorCount, byteCount}
+use Rattle.tracks.specs.Block.{rowAt, sectorOf}
 use Rattle.store.specs.Store.{tableLength, roomOf, rowFor, rowsFor, tracksFor, tableOf, contents, dataOf, sectorsAt, sumAt, countAt, nextAt, trackSum, tracksAt, countsAt, bytesAt, diskOf}
 use Rattle.store.specs.Spots.{endAt}
 use Rattle.store.proofs.Sums.{end-is}

@@ -9,19 +9,19 @@ use lib.Seq.{slice}
 use lib.Dec.{leb}
 use borrow.Author.Tests.{le-leb, lt-leb, leb-true}
 use Rattle.buffer.specs.Over.{over}
-use Rattle.image.specs.Bytes.{byteAt}
-use Rattle.image.specs.Refusals.{good, need}
-use Rattle.image.specs.Model.{Sector, Track, Disk, byteCount}
-use Rattle.image.specs.Dsk.{rowAt, sectorOf}
-use Rattle.image.specs.declared.id.SectorId.{SectorId}
-use Rattle.image.specs.declared.refusal.Refusal.the-variants.{BadStore, NoRoom}
+use Rattle.fields.specs.Bytes.{byteAt}
+use Rattle.fields.specs.Refusals.{good, need}
+use Rattle.fields.specs.Model.{Sector, Track, Disk, byteCount}
+use Rattle.tracks.specs.Block.{rowAt, sectorOf}
+use Rattle.fields.specs.declared.id.SectorId.{SectorId}
+use Rattle.fields.specs.declared.refusal.Refusal.the-variants.{BadStore, NoRoom}
 use Rattle.store.specs.Search.{isTrack, isSector}
 use Rattle.store.specs.Store.{roomOf, rowsFor, tracksFor, tableOf, contents, dataOf, countAt, trackAt, tracksAt, countsAt, bytesAt, wellLaid}
 use Rattle.disk.specs.Change.{change, withContent, savedIn, saved}
 use Rattle.store.specs.Calls.{outcome, laidAs}
 use Rattle.disk.specs.Calls.{saveAt, saveIn, saveOf}
 use Rattle.store.specs.Spots.{endAt, surveyOf, trackSpot, spotIn, storeSpot}
-use Rattle.store.specs.Laying.{trackFor}
+use Rattle.loading.specs.Laying.{trackFor}
 use Rattle.disk.specs.Saving.{lengthBytes, judged, planAt, planOf}
 use Rattle.store.specs.declared.find.Spot.{Spot}
 use Rattle.store.specs.declared.find.Spot.the-variants.{Nothing, At}

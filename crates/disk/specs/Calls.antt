@@ -5,10 +5,10 @@ use mathlib.Core.Bool.{cond}
 use lib.ListN.{length}
 use lib.Dec.{leb}
 use Rattle.buffer.specs.Over.{over}
-use Rattle.image.specs.Refusals.{Result, refused, good, need, after}
-use Rattle.image.specs.Model.{sizeOf, Sector, Track, Disk, total, byteCount}
-use Rattle.image.specs.declared.id.SectorId.{SectorId}
-use Rattle.image.specs.declared.refusal.Refusal.the-variants.{NoRoom, NoTransferRoom}
+use Rattle.fields.specs.Refusals.{Result, refused, good, need, after}
+use Rattle.fields.specs.Model.{sizeOf, Sector, Track, Disk, total, byteCount}
+use Rattle.fields.specs.declared.id.SectorId.{SectorId}
+use Rattle.fields.specs.declared.refusal.Refusal.the-variants.{NoRoom, NoTransferRoom}
 use Rattle.store.specs.Find.{Found, nothing, found}
 use Rattle.store.specs.Search.{sectorAt, readAt}
 use Rattle.store.specs.Store.{transferRoom, roomOf, contents, diskOf}

@@ -1,6 +1,4 @@
 -- Up to `Calls`, the definitions that a reader must believe, in the order in which they build on each other. Behind it, what the private calls say.
 pub mod Change
 pub mod Calls
-pub mod Runs
 pub mod Saving
-pub mod Setting

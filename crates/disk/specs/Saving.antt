@@ -3,10 +3,10 @@ use Prim.Native.Nat.{ℕ, _+_, _-_, _%_, _/_}
 use mathlib.Core.List.{List, [], _∷_}
 use mathlib.Core.Bool.{cond}
 use lib.Dec.{leb}
-use Rattle.image.specs.Bytes.{byteAt}
-use Rattle.image.specs.Dsk.{rowAt}
-use Rattle.image.specs.declared.id.SectorId.{SectorId}
-use Rattle.image.specs.declared.refusal.Refusal.the-variants.{BadStore, NoRoom}
+use Rattle.fields.specs.Bytes.{byteAt}
+use Rattle.tracks.specs.Block.{rowAt}
+use Rattle.fields.specs.declared.id.SectorId.{SectorId}
+use Rattle.fields.specs.declared.refusal.Refusal.the-variants.{BadStore, NoRoom}
 use Rattle.store.specs.Store.{roomOf, bytesAt, wellLaid}
 use Rattle.store.specs.Spots.{storeSpot}
 use Rattle.store.specs.declared.find.Spot.{Spot}

@@ -1,7 +1,7 @@
 // What the public calls answer.
-use image::Refusal;
-use image::St1;
-use image::St2;
+use fields::Refusal;
+use fields::St1;
+use fields::St2;
 
 pub enum Saved {
     Good,

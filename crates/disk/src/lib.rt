@@ -1,13 +1,8 @@
-// What a controller does to a disk in a store: save, read and set_track. Crate `store` has the store itself.
+// Saving a sector of a disk in a store, and what a read and a save answer. `specs/` says what every change and read of a disk does.
 mod answer;
 mod saving;
-mod serve;
-mod set;
 
 pub use answer::Reading;
 pub use answer::Saved;
 pub use answer::Served;
 pub use saving::save;
-pub use serve::read;
-pub use set::Format;
-pub use set::set_track;

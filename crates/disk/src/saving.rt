@@ -1,7 +1,7 @@
 // A save: the sector at an address takes new bytes, and with them their length.
 use crate::answer::Saved;
-use image::Refusal;
-use image::SectorId;
+use fields::Refusal;
+use fields::SectorId;
 use store::Spot;
 use store::Totals;
 use store::find_sector;
@@ -13,7 +13,7 @@ ghost use mathlib.Core.List.{_++_};
 ghost use lib.ListN.{length};
 ghost use lib.Seq.{slice};
 ghost use Rattle.buffer.specs.Over.{over};
-ghost use Rattle.image.specs.Dsk.{rowAt};
+ghost use Rattle.tracks.specs.Block.{rowAt};
 ghost use Rattle.store.specs.Calls.{outcome};
 ghost use Rattle.disk.specs.Calls.{saveOf};
 ghost use Rattle.disk.specs.Saving.{lengthBytes, judged, planOf};
@@ -35,7 +35,7 @@ pub fn splice(buf: &mut [u8], from: usize, to: usize, end: usize, new: &[u8])
     requires { ⌜ (to ≤ end) × ((end ≤ length (now buf)) × (from + length (now new) + (end - to) ≤ length (now buf))) ⌝ }
     ensures { λ _. ⌜ now (buf .exit) ≡ over (now (buf .entry)) from (now (new .entry) ++ slice to end (now (buf .entry))) ⌝ }
 {
-    buffer::shift(buf, to, from + new.len(), end);
+    moves::shift(buf, to, from + new.len(), end);
     buffer::copy_in(buf, from, new);
 }
 
@@ -55,7 +55,7 @@ fn judge(table: &[u8], row: usize, from: usize, end: usize, count: usize, room: 
     requires { ⌜ (row < 65536) × ((from + rowAt (now table) row .stored ≤ end) × (end ≤ 1048576)) ⌝ }
     ensures { λ r. ⌜ r ≡ judged (now (table .entry)) row from end count room ⌝ }
 {
-    let entry = image::row_at(table, row);
+    let entry = tracks::row_at(table, row);
     let old = entry.stored as usize;
     if 65535 < count {
         return Plan::Refused(Refusal::NoRoom);

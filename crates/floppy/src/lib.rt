@@ -1,5 +1,5 @@
 // The floppy controller uPD765A, over a disk that is kept in a lent table and a lent data buffer. What is read lies in a lent transfer buffer.
-use image::SectorId;
+use fields::SectorId;
 use registers::Byte;
 use registers::Drive;
 use registers::Flag;
@@ -9,7 +9,7 @@ use registers::Seek;
 use store::Done;
 ghost use mathlib.Core.Path.{_≡_};
 ghost use Rattle.floppy.specs.Calls.{newFloppy, shown, shownAs, after, afterAs, wrote, wroteAs};
-ghost use Rattle.commands.specs.Calls.{dataWrite};
+ghost use Rattle.sending.specs.Calls.{dataWrite};
 ghost use Rattle.registers.specs.Calls.{statusRead, dataRead, motorSet, diskSet, motorOf, trackOf, diskIn};
 
 // A controller: its registers, and beside them the bytes of an unfinished write.
@@ -124,7 +124,7 @@ impl Floppy {
     {
         let regs = self.regs;
         let mut held = self.held;
-        let a = commands::write_cmd(regs, b, &mut held, table, bytes, transfer);
+        let a = sending::write_cmd(regs, b, &mut held, table, bytes, transfer);
         let done = a.done;
         let after = a.regs;
         let floppy = Floppy { regs: after, held };

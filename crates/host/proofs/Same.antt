@@ -1,13 +1,13 @@
 -- The exported calls on the bytes of a controller are the calls by value on the controller, whose answers the calls over a lent controller give as well.
-use mathlib.Core.Path.{_≡_, refl, sym, ap, _∙_}
-use Prim.Native.Nat.{ℕ, _+_}
+use mathlib.Core.Path.{_≡_, refl, ap}
+use Prim.Native.Nat.{ℕ}
 use native.Mathlib.Omega.{arith}
-use mathlib.Core.Bool.{Bool, true, false, _&&_}
+use mathlib.Core.Bool.{Bool, true, false}
 use mathlib.Core.List.{List}
 use lib.ListN.{length}
-use lib.Dec.{eqb, leb}
+use lib.Dec.{leb}
 use borrow.Author.Tests.{eq-eqb}
-use Rattle.image.specs.Refusals.{Result, refused, good}
+use Rattle.fields.specs.Refusals.{Result, refused, good}
 use Rattle.store.specs.declared.answer.Done.the-variants as done
 use Rattle.registers.specs.declared.regs.Regs.{Regs}
 use Rattle.registers.specs.declared.regs.Seek.{Seek}
@@ -16,16 +16,16 @@ use Rattle.registers.specs.Boxes.{Sent}
 use Rattle.registers.specs.View.{impossible, impossibleIn}
 use Rattle.registers.specs.Settle.{withMotor, withDrive, regsOf}
 use Rattle.registers.specs.Calls.{statusOf, afterStatusOf, toldIf, statusRead, sourceOf, byteFrom, regsRead, dataRead, changedIf, motorSet, diskSet, motorOf, trackOf, diskIn}
-use Rattle.commands.specs.Lent.{Left, left, leftOf}
-use Rattle.commands.specs.Calls.{sentTo, dataWrite}
+use Rattle.commands.specs.Lent.{leftOf}
+use Rattle.sending.specs.Calls.{sentTo, dataWrite}
 use Rattle.floppy.specs.declared.Floppy.{Floppy}
 use Rattle.floppy.specs.declared.Shown.{Shown}
 use Rattle.floppy.specs.declared.After.{After}
 use Rattle.floppy.specs.Calls.{shownAs, afterAs, Wrote, wrote, wroteAs}
-use Rattle.host.specs.Layout.{controllerLength, flagByte, seekByte, numbersFor, imageOf, regsAt, formed, regsIn}
-use Rattle.host.specs.Words.{byteWord, flagWord, doneWord}
-use Rattle.host.specs.Calls.{askedOf, motorOn, trackOn, diskOn, Answered, answered, answeredOf, toldOn, writtenOn, setMotorOn, setDiskOn, statusOn, readOn, Sending, sending, sendingOf, sentOn, writeOn}
-use Rattle.host.proofs.Inverse.{Fitting, read-back}
+use Rattle.layout.specs.Layout.{controllerLength, flagByte, seekByte, numbersFor, imageOf, formed, regsIn}
+use Rattle.words.specs.Words.{byteWord, flagWord, doneWord}
+use Rattle.host.specs.Calls.{motorOn, trackOn, diskOn, Answered, answered, toldOn, writtenOn, setMotorOn, setDiskOn, statusOn, readOn, Sending, sending, sentOn, writeOn}
+use Rattle.layout.proofs.Inverse.{Fitting, read-back}
 
 -- ---- an answer by value, as words and bytes
 

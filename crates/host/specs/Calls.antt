@@ -4,10 +4,10 @@ use mathlib.Core.Bool.{Bool, cond}
 use mathlib.Core.List.{List}
 use lib.ListN.{length}
 use lib.Dec.{eqb}
-use Rattle.image.specs.Refusals.{Result, refused, good}
-use Rattle.image.specs.Dsk.{rowAt}
-use Rattle.image.specs.declared.id.SectorId.{SectorId}
-use Rattle.image.specs.declared.refusal.Refusal.the-variants.{BadController}
+use Rattle.fields.specs.Refusals.{Result, refused, good}
+use Rattle.tracks.specs.Block.{rowAt}
+use Rattle.fields.specs.declared.id.SectorId.{SectorId}
+use Rattle.fields.specs.declared.refusal.Refusal.the-variants.{BadController}
 use Rattle.store.specs.Store.{roomOf, wellLaid}
 use Rattle.store.specs.Spots.{storeSpot}
 use Rattle.store.specs.Calls.{Outcome, outcome}
@@ -22,10 +22,10 @@ use Rattle.registers.specs.declared.regs.Byte.{Byte}
 use Rattle.registers.specs.declared.regs.Byte.the-variants as byte
 use Rattle.registers.specs.Calls.{statusRead, dataRead, motorSet, diskSet, motorOf, trackOf, diskIn}
 use Rattle.commands.specs.Lent.{Left, left}
-use Rattle.commands.specs.Calls.{dataWrite}
+use Rattle.sending.specs.Calls.{dataWrite}
 use Rattle.floppy.specs.Calls.{newFloppy}
-use Rattle.host.specs.Layout.{controllerLength, numbersFor, imageOf, heldAt, regsIn}
-use Rattle.host.specs.Words.{refusalWord, byteWord, flagWord, doneWord}
+use Rattle.layout.specs.Layout.{controllerLength, numbersFor, imageOf, heldAt, regsIn}
+use Rattle.words.specs.Words.{refusalWord, byteWord, flagWord, doneWord}
 
 -- ---- Calls that ask a controller
 

@@ -1,4 +1,2 @@
--- All of it is for a reader to believe: `Layout` which bytes a controller is, `Words` the answer word, `Calls` what each exported call answers and leaves.
-pub mod Layout
-pub mod Words
+-- The definition that a reader must believe: what each exported call answers and leaves. `layout` says which bytes a controller is, `words` what the answer word is.
 pub mod Calls

@@ -1,10 +1,8 @@
 // The exported calls, for C and Rust: on numbers and byte slices, each with one word for its answer. docs/HOST.md describes them.
 // Nothing is kept between two calls: a controller and a disk are the bytes that the host lends.
-mod layout;
-mod word;
 
-use image::Refusal;
-use image::SectorId;
+use fields::Refusal;
+use fields::SectorId;
 use layout::HELD;
 use layout::LENGTH;
 use layout::decode;
@@ -15,21 +13,21 @@ use registers::Told;
 use registers::Written;
 use store::Done;
 use store::Place;
-use word::byte_word;
-use word::done_word;
-use word::flag_word;
-use word::geometry_word;
-use word::has_word;
-use word::refusal_word;
-use word::wide;
+use words::byte_word;
+use words::done_word;
+use words::flag_word;
+use words::geometry_word;
+use words::has_word;
+use words::refusal_word;
+use words::wide;
 ghost use mathlib.Core.Path.{_≡_};
 ghost use mathlib.Core.Bool.{not};
 ghost use lib.ListN.{length};
 ghost use lib.Dec.{eqb};
 ghost use Rattle.store.specs.Store.{tableLength, diskOf};
 ghost use Rattle.store.specs.Calls.{outcome, loadOf, freshOf, geometryOf, hasOf};
-ghost use Rattle.host.specs.Layout.{controllerLength};
-ghost use Rattle.host.specs.Words.{geometryWord, hasWord};
+ghost use Rattle.layout.specs.Layout.{controllerLength};
+ghost use Rattle.words.specs.Words.{geometryWord, hasWord};
 ghost use Rattle.host.specs.Calls.{answered, toldOn, writtenOn, newOn, setMotorOn, motorOn, trackOn, setDiskOn, diskOn, statusOn, readOn, sending, writeOn, worded, partOn};
 
 // ---- lengths
@@ -183,7 +181,7 @@ pub extern "C" fn floppy_write_cmd(
         return refusal_word(Refusal::BadController);
     }
     let regs = decode(controller);
-    let a = commands::write_cmd(regs, b, &mut controller[HELD..], table, bytes, transfer);
+    let a = sending::write_cmd(regs, b, &mut controller[HELD..], table, bytes, transfer);
     settle(a, controller)
 }
 
@@ -193,14 +191,14 @@ pub extern "C" fn floppy_write_cmd(
 pub extern "C" fn disk_new(image: &[u8], table: &mut [u8], bytes: &mut [u8]) -> u64
     ensures { λ r. ⌜ outcome r (now (table .exit)) (now (bytes .exit)) ≡ worded (loadOf (now (image .entry)) (now (table .entry)) (now (bytes .entry))) ⌝ }
 {
-    done_word(store::new(image, table, bytes))
+    done_word(loading::new(image, table, bytes))
 }
 
 #[no_mangle]
 pub extern "C" fn disk_new_formatted(table: &mut [u8], bytes: &mut [u8]) -> u64
     ensures { λ r. ⌜ outcome r (now (table .exit)) (now (bytes .exit)) ≡ worded (freshOf (now (table .entry)) (now (bytes .entry))) ⌝ }
 {
-    done_word(store::new_formatted(table, bytes))
+    done_word(loading::new_formatted(table, bytes))
 }
 
 #[no_mangle]

@@ -4,25 +4,23 @@ use Prim.Native.Nat.{ℕ, zero, suc, _+_, _-_, _*_, _≤_, _<_}
 use native.Mathlib.Omega.{arith}
 use native.Mathlib.Nat.{mul-le-mul}
 use mathlib.Core.List.{List}
-use mathlib.Core.Bool.{Bool, true, false, cond}
-use lib.ListN.{length, getD, take, drop}
+use lib.ListN.{length, getD, drop}
 use lib.Seq.{getD-drop}
-use lib.Dec.{leb, ltb}
 use borrow.Author.Tests.{lt-leb, le-leb, leb-true, leb-false}
-use Rattle.image.specs.Refusals.{Result, refused, good, need, after}
-use Rattle.image.specs.Bytes.{byteAt, numberAt, textAt, stringOf}
+use Rattle.fields.specs.Refusals.{Result, refused, good}
+use Rattle.fields.specs.Bytes.{byteAt, numberAt, stringOf}
 use Rattle.image.specs.Dsk.{extendedText, normalText, kindOf, entries, tableEnd, headerOf, sizeEntry, entryOf}
 use Rattle.image.specs.Calls.{namedOf, openedOf}
-use Rattle.image.specs.declared.refusal.Refusal.{Refusal}
-use Rattle.image.specs.declared.refusal.Refusal.the-variants.{ShortImage, NotAnImage}
-use Rattle.image.specs.declared.read.Text.the-variants as text
-use Rattle.image.specs.declared.walk.Kind.{Kind}
-use Rattle.image.specs.declared.walk.Kind.the-variants.{Normal, Extended}
+use Rattle.fields.specs.declared.refusal.Refusal.{Refusal}
+use Rattle.fields.specs.declared.refusal.Refusal.the-variants.{ShortImage, NotAnImage}
+use Rattle.fields.specs.declared.read.Text.the-variants as text
+use Rattle.tracks.specs.declared.track.Kind.{Kind}
+use Rattle.tracks.specs.declared.track.Kind.the-variants.{Normal, Extended}
 use Rattle.image.specs.declared.walk.Named.{Named}
 use Rattle.image.specs.declared.walk.Named.the-variants as named
 use Rattle.image.specs.declared.walk.Opened.the-variants as opened
 use Rattle.image.specs.declared.walk.Entry.the-variants.{Absent, Size}
-use Rattle.image.proofs.Readers.{told}
+use Rattle.fields.proofs.Readers.{told}
 
 -- ---- the kind
 

@@ -1,31 +1,33 @@
 -- The walk: what a step answers, how it unfolds the tracks that are left, and the totals.
 use mathlib.Core.Path.{_≡_, refl, sym, ap, _∙_}
-use Prim.Native.Nat.{ℕ, zero, suc, _+_, _-_, _*_, _≤_, _<_}
+use Prim.Native.Nat.{ℕ, _+_, _-_, _*_, _≤_, _<_}
 use native.Mathlib.Omega.{arith}
 use mathlib.Core.List.{List, [], _∷_}
 use mathlib.Core.Bool.{Bool, true, false, cond}
 use lib.ListN.{length, drop, length-drop}
-use lib.Dec.{leb, ltb}
+use lib.Dec.{ltb}
 use borrow.Author.Tests.{lt-ltb, le-ltb, ltb-true, ltb-false}
-use Rattle.image.specs.Refusals.{Result, refused, good, after}
-use Rattle.image.specs.Model.{Track, Disk, total, trackBytes, sectorCount, byteCount}
-use Rattle.image.specs.Dsk.{Dsk, entries, entryOf, headerOf, trackOf, before, placed, tracksFrom, imageOf, dskOf}
-use Rattle.image.specs.Calls.{headOf, blockOf, openedOf, past, readStep, entryStep, stepOf, leftOf, tracksIn, toCome, surveyOf}
-use Rattle.image.specs.declared.refusal.Refusal.{Refusal}
-use Rattle.image.specs.declared.walk.Kind.{Kind}
+use Rattle.fields.specs.Refusals.{Result, refused, good, after}
+use Rattle.fields.specs.Model.{Track, Disk, total, trackBytes, sectorCount, byteCount}
+use Rattle.tracks.specs.Block.{trackOf}
+use Rattle.image.specs.Dsk.{Dsk, entries, entryOf, headerOf, before, placed, tracksFrom, imageOf, dskOf}
+use Rattle.tracks.specs.Block.{headOf, blockOf}
+use Rattle.image.specs.Calls.{openedOf, past, readStep, entryStep, stepOf, leftOf, tracksIn, toCome, surveyOf}
+use Rattle.fields.specs.declared.refusal.Refusal.{Refusal}
+use Rattle.tracks.specs.declared.track.Kind.{Kind}
 use Rattle.image.specs.declared.walk.Entry.{Entry}
 use Rattle.image.specs.declared.walk.Entry.the-variants.{Absent, Size}
 use Rattle.image.specs.declared.walk.Walk.{Walk}
-use Rattle.image.specs.declared.walk.Head.{Head}
-use Rattle.image.specs.declared.walk.Block.{Block}
-use Rattle.image.specs.declared.walk.Block.the-variants as block
+use Rattle.tracks.specs.declared.track.Head.{Head}
+use Rattle.tracks.specs.declared.track.Block.{Block}
+use Rattle.tracks.specs.declared.track.Block.the-variants as block
 use Rattle.image.specs.declared.walk.Step.{Step}
 use Rattle.image.specs.declared.walk.Step.the-variants as step
 use Rattle.image.specs.declared.walk.Surveyed.{Surveyed}
 use Rattle.image.specs.declared.walk.Surveyed.the-variants as survey
 use Rattle.image.specs.declared.walk.Opened.{Opened}
 use Rattle.image.specs.declared.walk.Opened.the-variants as opened
-use Rattle.image.proofs.Tracks.{down, track-there}
+use Rattle.tracks.proofs.Tracks.{down, track-there}
 
 -- ---- a step's answers
 

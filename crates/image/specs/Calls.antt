@@ -1,26 +1,23 @@
 -- What the walk's calls answer, in terms of the format.
 use Prim.Native.Nat.{ℕ, _+_, _-_}
-use mathlib.Core.List.{List, [], _∷_}
-use mathlib.Core.Bool.{Bool, true, false, cond}
+use mathlib.Core.List.{List, []}
+use mathlib.Core.Bool.{cond}
 use lib.ListN.{length, drop}
 use lib.Dec.{ltb}
-use Rattle.image.specs.Refusals.{Result, refused, good}
-use Rattle.image.specs.Model.{Track, Disk, trackBytes, sectorCount, byteCount}
-use Rattle.image.specs.Dsk.{Dsk, headerOf, entries, entryOf, trackOf, tracksFrom}
-use Rattle.image.specs.declared.walk.Kind.{Kind}
+use Rattle.fields.specs.Refusals.{Result, refused, good}
+use Rattle.fields.specs.Model.{Track, Disk, sectorCount, byteCount}
+use Rattle.tracks.specs.Block.{trackOf, headOf}
+use Rattle.image.specs.Dsk.{Dsk, entries, entryOf, tracksFrom}
+use Rattle.tracks.specs.declared.track.Kind.{Kind}
 use Rattle.image.specs.declared.walk.Entry.{Entry}
 use Rattle.image.specs.declared.walk.Entry.the-variants.{Absent, Size}
 use Rattle.image.specs.declared.walk.Named.{Named}
 use Rattle.image.specs.declared.walk.Named.the-variants as named
 use Rattle.image.specs.declared.walk.Walk.{Walk}
-use Rattle.image.specs.declared.walk.Head.{Head}
-use Rattle.image.specs.declared.walk.Totals.{Totals}
 use Rattle.image.specs.declared.walk.Surveyed.{Surveyed}
 use Rattle.image.specs.declared.walk.Surveyed.the-variants as survey
 use Rattle.image.specs.declared.walk.Opened.{Opened}
 use Rattle.image.specs.declared.walk.Opened.the-variants as opened
-use Rattle.image.specs.declared.walk.Block.{Block}
-use Rattle.image.specs.declared.walk.Block.the-variants as block
 use Rattle.image.specs.declared.walk.Step.{Step}
 use Rattle.image.specs.declared.walk.Step.the-variants as step
 
@@ -29,23 +26,6 @@ abbrev pub surveyOf : Result Dsk → Surveyed
 surveyOf (refused why) = survey.Refused why
 surveyOf (good d) =
     survey.Good (record { kind = d .kind; tracks = length (d .disk); sectors = sectorCount (d .disk); bytes = byteCount (d .disk) })
-
--- a track's fields, how many sectors it has and how many bytes they store
-abbrev pub headOf : Track → Head
-headOf t = record {
-  cylinder = t .cylinder;
-  side = t .side;
-  size = t .size;
-  sectors = length (t .sectors);
-  gap = t .gap;
-  filler = t .filler;
-  stored = trackBytes t;
-}
-
--- reading a track block
-abbrev pub blockOf : Result Track → Block
-blockOf (refused why) = block.Refused why
-blockOf (good t) = block.Head (headOf t)
 
 -- the kind that an image's first bytes name
 abbrev pub namedOf : Result Kind → Named

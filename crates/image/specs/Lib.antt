@@ -1,6 +1,3 @@
--- The definitions that a reader must believe, in the order in which they build on each other. `Dsk` is the format.
+-- The definitions that a reader must believe: the format of an image, and what the walk's calls answer in its terms. A track block stands in `tracks`.
 pub mod Dsk
-pub mod Model
-pub mod Bytes
-pub mod Refusals
 pub mod Calls

@@ -5,21 +5,23 @@ use native.Mathlib.Omega.{arith}
 use mathlib.Core.List.{List, [], _++_}
 use lib.ListN.{length, drop, length-append}
 use lib.Seq.{getD-drop}
-use Rattle.image.specs.Refusals.{Result, refused, good, numberOf}
-use Rattle.image.specs.Bytes.{byteAt, numberAt}
-use Rattle.image.specs.Model.{Track, Disk, total, sectorCount}
-use Rattle.image.specs.Dsk.{rowAt, rowOf, trackIn, trackOf, before}
-use Rattle.image.specs.Calls.{headOf, stepOf, leftOf}
-use Rattle.image.specs.declared.refusal.Refusal.{Refusal}
-use Rattle.image.specs.declared.walk.Kind.{Kind}
-use Rattle.image.specs.declared.walk.Kind.the-variants.{Normal, Extended}
+use Rattle.fields.specs.Refusals.{Result, refused, good, numberOf}
+use Rattle.fields.specs.Bytes.{byteAt, numberAt}
+use Rattle.fields.specs.Model.{Track, Disk, total, sectorCount}
+use Rattle.tracks.specs.Block.{rowAt, rowOf, trackIn, trackOf}
+use Rattle.image.specs.Dsk.{before}
+use Rattle.tracks.specs.Block.{headOf}
+use Rattle.image.specs.Calls.{stepOf, leftOf}
+use Rattle.fields.specs.declared.refusal.Refusal.{Refusal}
+use Rattle.tracks.specs.declared.track.Kind.{Kind}
+use Rattle.tracks.specs.declared.track.Kind.the-variants.{Normal, Extended}
 use Rattle.image.specs.declared.walk.Walk.{Walk}
 use Rattle.image.specs.declared.walk.Step.{Step}
 use Rattle.image.specs.declared.walk.Step.the-variants as step
-use Rattle.image.specs.declared.walk.Row.{Row}
+use Rattle.tracks.specs.declared.track.Row.{Row}
 use Rattle.image.specs.declared.walk.Totals.{Totals}
-use Rattle.image.proofs.Sizes.{size-most}
-use Rattle.image.proofs.Tracks.{sectors-length, track-good}
+use Rattle.fields.proofs.Sizes.{size-most}
+use Rattle.tracks.proofs.Tracks.{sectors-length, track-good}
 use Rattle.image.proofs.Steps.{Moved, Says, says, falls}
 use Rattle.listing.specs.Text.{diskWord, kindWord, copies, trackLine, sectorLines, trackLines, printedAs}
 use Rattle.listing.specs.Lines.{rowLine, headLine, totalsLine, rowLines, blockLines}

@@ -9,7 +9,7 @@ use lib.ListN.{length, drop, set, length-set, drop-of-length-le}
 use lib.Dec.{eqb, ltb, lit≤}
 use borrow.Author.Tests.{lt-ltb, le-ltb, ltb-false, eq-eqb, ne-eqb}
 use Rattle.buffer.proofs.Overs.{over-set, over-drop}
-use Rattle.image.specs.Model.{sizeOf}
+use Rattle.fields.specs.Model.{sizeOf}
 use Rattle.listing.specs.Text.{digitsFor, decimal, copies}
 
 -- ---- the loop that writes them

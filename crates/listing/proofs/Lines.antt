@@ -6,12 +6,12 @@ use mathlib.Core.List.{List, [], _++_}
 use lib.ListN.{length, length-append}
 use Rattle.buffer.specs.Over.{over}
 use Rattle.buffer.proofs.Overs.{over-over, over-nil, over-length}
-use Rattle.image.specs.Refusals.{refused, numberOf}
-use Rattle.image.specs.declared.refusal.Refusal.{Refusal}
-use Rattle.image.specs.declared.id.SectorId.{SectorId}
-use Rattle.image.specs.declared.walk.Kind.{Kind}
-use Rattle.image.specs.declared.walk.Head.{Head}
-use Rattle.image.specs.declared.walk.Row.{Row}
+use Rattle.fields.specs.Refusals.{refused, numberOf}
+use Rattle.fields.specs.declared.refusal.Refusal.{Refusal}
+use Rattle.fields.specs.declared.id.SectorId.{SectorId}
+use Rattle.tracks.specs.declared.track.Kind.{Kind}
+use Rattle.tracks.specs.declared.track.Head.{Head}
+use Rattle.tracks.specs.declared.track.Row.{Row}
 use Rattle.image.specs.declared.walk.Totals.{Totals}
 use Rattle.listing.specs.Text.{diskWord, tracksWord, sectorsWord, bytesWord, trackWord, gapWord, fillerWord, sectorWord, space, end, refusedWord, kindWord, decimal, copies, printedAs, diskText, idText, sectorText, trackText}
 use Rattle.listing.specs.Lines.{Laid, rowLine, headLine, totalsLine}

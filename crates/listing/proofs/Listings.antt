@@ -7,12 +7,12 @@ use lib.ListN.{length, length-append}
 use lib.Dec.{leb}
 use borrow.Author.Tests.{le-leb, lt-leb}
 use Rattle.buffer.specs.Over.{over}
-use Rattle.image.specs.Refusals.{Result, refused, good, need, after}
-use Rattle.image.specs.Model.{Disk, sectorCount, byteCount}
+use Rattle.fields.specs.Refusals.{Result, refused, good, need, after}
+use Rattle.fields.specs.Model.{Disk, sectorCount, byteCount}
 use Rattle.image.specs.Dsk.{Dsk, headerOf, dskOf}
 use Rattle.image.specs.Calls.{openedOf, leftOf, tracksIn, toCome, surveyOf}
-use Rattle.image.specs.declared.refusal.Refusal.{Refusal}
-use Rattle.image.specs.declared.refusal.Refusal.the-variants.{LongInput, TooManyTracks, TooManySectors}
+use Rattle.fields.specs.declared.refusal.Refusal.{Refusal}
+use Rattle.fields.specs.declared.refusal.Refusal.the-variants.{LongInput, TooManyTracks, TooManySectors}
 use Rattle.image.specs.declared.walk.Walk.{Walk}
 use Rattle.image.specs.declared.walk.Totals.{Totals}
 use Rattle.image.specs.declared.walk.Surveyed.the-variants as surveyed

@@ -4,18 +4,19 @@ use Prim.Native.Nat.{ℕ, zero, suc, _+_, _-_, _≤_, _<_}
 use native.Mathlib.Omega.{arith}
 use mathlib.Core.List.{List, [], _∷_, _++_, append-assoc}
 use lib.ListN.{length, take, drop}
-use Rattle.image.specs.Refusals.{Result, refused, good}
-use Rattle.image.specs.Bytes.{byteAt}
-use Rattle.image.specs.Model.{Track, Disk}
-use Rattle.image.specs.Dsk.{rowOf, sectorOf, sectorsFrom, storedFrom, trackIn, trackOf}
-use Rattle.image.specs.Calls.{headOf, leftOf, tracksIn, toCome}
-use Rattle.image.specs.declared.refusal.Refusal.{Refusal}
-use Rattle.image.specs.declared.walk.Kind.{Kind}
+use Rattle.fields.specs.Refusals.{Result, refused, good}
+use Rattle.fields.specs.Bytes.{byteAt}
+use Rattle.fields.specs.Model.{Track, Disk}
+use Rattle.tracks.specs.Block.{rowOf, sectorOf, sectorsFrom, storedFrom, trackIn, trackOf}
+use Rattle.tracks.specs.Block.{headOf}
+use Rattle.image.specs.Calls.{leftOf, tracksIn, toCome}
+use Rattle.fields.specs.declared.refusal.Refusal.{Refusal}
+use Rattle.tracks.specs.declared.track.Kind.{Kind}
 use Rattle.image.specs.declared.walk.Walk.{Walk}
-use Rattle.image.specs.declared.walk.Head.{Head}
-use Rattle.image.specs.declared.walk.Row.{Row}
+use Rattle.tracks.specs.declared.track.Head.{Head}
+use Rattle.tracks.specs.declared.track.Row.{Row}
 use Rattle.image.specs.declared.walk.Step.the-variants as step
-use Rattle.image.proofs.Tracks.{down, whole-part, sectors-length, track-good}
+use Rattle.tracks.proofs.Tracks.{down, whole-part, sectors-length, track-good}
 use Rattle.image.proofs.Steps.{Says, come-split}
 use Rattle.listing.specs.Text.{sectorLine, trackLine, sectorLines, trackLines, sectorText}
 use Rattle.listing.specs.Lines.{Laid, rowLine, headLine, rowLines, blockLines, Listable}

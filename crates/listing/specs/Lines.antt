@@ -4,13 +4,13 @@ use mathlib.Core.Path.{_≡_}
 use mathlib.Core.List.{List, [], _++_}
 use lib.ListN.{length}
 use Rattle.buffer.specs.Over.{over}
-use Rattle.image.specs.Refusals.{good}
-use Rattle.image.specs.Dsk.{rowOf}
+use Rattle.fields.specs.Refusals.{good}
+use Rattle.tracks.specs.Block.{rowOf}
 use Rattle.image.specs.Calls.{leftOf, toCome}
-use Rattle.image.specs.declared.walk.Kind.{Kind}
+use Rattle.tracks.specs.declared.track.Kind.{Kind}
 use Rattle.image.specs.declared.walk.Walk.{Walk}
-use Rattle.image.specs.declared.walk.Head.{Head}
-use Rattle.image.specs.declared.walk.Row.{Row}
+use Rattle.tracks.specs.declared.track.Head.{Head}
+use Rattle.tracks.specs.declared.track.Row.{Row}
 use Rattle.image.specs.declared.walk.Totals.{Totals}
 use Rattle.listing.specs.Text.{sectorText, trackText, diskText, trackLines}
 

@@ -4,13 +4,13 @@ use mathlib.Core.Bool.{cond}
 use mathlib.Core.List.{List, [], _∷_, _++_}
 use lib.ListN.{length}
 use lib.Dec.{eqb, ltb, leb}
-use Rattle.image.specs.Refusals.{Result, refused, good, need, after, numberOf}
-use Rattle.image.specs.Model.{sizeOf, Sector, Track, Disk, sectorCount, byteCount}
+use Rattle.fields.specs.Refusals.{Result, refused, good, need, after, numberOf}
+use Rattle.fields.specs.Model.{sizeOf, Sector, Track, Disk, sectorCount, byteCount}
 use Rattle.image.specs.Dsk.{Dsk, dskOf}
-use Rattle.image.specs.declared.id.SectorId.{SectorId}
-use Rattle.image.specs.declared.walk.Kind.{Kind}
-use Rattle.image.specs.declared.walk.Kind.the-variants.{Normal, Extended}
-use Rattle.image.specs.declared.refusal.Refusal.the-variants.{LongInput, TooManyTracks, TooManySectors}
+use Rattle.fields.specs.declared.id.SectorId.{SectorId}
+use Rattle.tracks.specs.declared.track.Kind.{Kind}
+use Rattle.tracks.specs.declared.track.Kind.the-variants.{Normal, Extended}
+use Rattle.fields.specs.declared.refusal.Refusal.the-variants.{LongInput, TooManyTracks, TooManySectors}
 
 -- ---- Words
 

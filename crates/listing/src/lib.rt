@@ -1,8 +1,8 @@
 // The listing of an image: its text is the definition in `specs/Text.antt`.
 mod text;
 
+use fields::Refusal;
 use image::Opened;
-use image::Refusal;
 use image::Surveyed;
 use image::Totals;
 use text::put_disk;

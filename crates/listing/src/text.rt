@@ -1,17 +1,17 @@
 // A listing's text, laid into a slice: each function lays its part from a place on and answers the place behind it.
-use image::Head;
-use image::Kind;
-use image::Refusal;
-use image::Row;
-use image::SectorId;
+use fields::Refusal;
+use fields::SectorId;
 use image::Step;
 use image::Totals;
 use image::Walk;
+use tracks::Head;
+use tracks::Kind;
+use tracks::Row;
 ghost use mathlib.Core.Path.{_≡_};
 ghost use Prim.Native.Nat.{_+_, _≤_};
 ghost use mathlib.Core.List.{_++_};
 ghost use lib.ListN.{length, drop};
-ghost use Rattle.image.specs.Refusals.{refused};
+ghost use Rattle.fields.specs.Refusals.{refused};
 ghost use Rattle.listing.specs.Text.{diskWord, kindWord, decimal, copies, trackLines, printedAs, idText};
 ghost use Rattle.image.specs.Calls.{toCome};
 ghost use Rattle.listing.specs.Lines.{Laid, rowLine, headLine, totalsLine, rowLines, blockLines, Listable};
@@ -117,7 +117,7 @@ fn put_rows(out: &mut [u8], start: usize, kind: Kind, block: &[u8], count: u8) -
     let mut at = start;
     let mut k: u8 = 0;
     while k < count {
-        at = put_row(out, at, image::sector_row(kind, block, k));
+        at = put_row(out, at, tracks::sector_row(kind, block, k));
         k += 1;
     }
     at

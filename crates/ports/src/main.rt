@@ -76,9 +76,9 @@ fn distance(from: usize, to: usize) -> usize {
 fn word_at(bytes: &[u8], at: usize) -> usize
     ensures { λ r. ⌜ r < 65536 ⌝ }
 {
-    match image::read_u16(bytes, at) {
-        image::Read::Refused(_) => 0,
-        image::Read::Number(n) => n as usize % 65536,
+    match fields::read_u16(bytes, at) {
+        fields::Read::Refused(_) => 0,
+        fields::Read::Number(n) => n as usize % 65536,
     }
 }
 
@@ -107,7 +107,7 @@ fn show(word: &[u8], n: usize) {
     replay::field(n as u64);
 }
 
-fn refused(why: image::Refusal) {
+fn refused(why: fields::Refusal) {
     replay::put(b" refused");
     replay::field(why.number() as u64);
 }
@@ -170,22 +170,18 @@ fn put_at(out: &mut [u8], at: usize, b: u8) {
     }
 }
 
-// A read of the status, over a lent controller or by value.
-fn status_once(f: Floppy, lent: bool) -> Shown {
-    if lent {
-        f.status_lent()
-    } else {
-        f.status_step()
+// A read of the data port or of the status, over a lent controller or by value.
+fn read_once(f: Floppy, dataport: bool, lent: bool, transfer: &[u8]) -> Shown {
+    if dataport {
+        if lent {
+            return f.read_lent(transfer);
+        }
+        return f.read_step(transfer);
     }
-}
-
-// A read of the data port, likewise.
-fn read_once(f: Floppy, lent: bool, transfer: &[u8]) -> Shown {
     if lent {
-        f.read_lent(transfer)
-    } else {
-        f.read_step(transfer)
+        return f.status_lent();
     }
+    f.status_step()
 }
 
 // A byte sent, likewise.
@@ -203,39 +199,19 @@ fn write_once(
     f.write_step(b, table, bytes, transfer)
 }
 
-// Reads the status so many times, or until it is refused.
-fn statuses(floppy: Floppy, times: usize, lent: bool, out: &mut [u8]) -> Answers {
+// Reads a port so many times, or until it is refused.
+fn reads(
+    floppy: Floppy,
+    dataport: bool,
+    times: usize,
+    lent: bool,
+    transfer: &[u8],
+    out: &mut [u8],
+) -> Answers {
     let mut f = floppy;
     let mut k: usize = 0;
     while k < times {
-        let a = status_once(f, lent);
-        let byte = a.byte;
-        f = a.floppy;
-        match byte {
-            Byte::Refused(why) => {
-                return Answers {
-                    floppy: f,
-                    count: k,
-                    done: Done::Refused(why),
-                };
-            }
-            Byte::Of(b) => put_at(out, k, b),
-        }
-        k += 1;
-    }
-    Answers {
-        floppy: f,
-        count: k,
-        done: Done::Good,
-    }
-}
-
-// Reads the data port so many times, or until it is refused.
-fn reads(floppy: Floppy, times: usize, lent: bool, transfer: &[u8], out: &mut [u8]) -> Answers {
-    let mut f = floppy;
-    let mut k: usize = 0;
-    while k < times {
-        let a = read_once(f, lent, transfer);
+        let a = read_once(f, dataport, lent, transfer);
         let byte = a.byte;
         f = a.floppy;
         match byte {
@@ -266,16 +242,16 @@ fn answered(bench: Bench, a: Answers, out: &[u8]) -> Bench {
     with(bench, after)
 }
 
-fn status(bench: Bench, times: usize, out: &mut [u8]) -> Bench {
+fn status(bench: Bench, times: usize, transfer: &[u8], out: &mut [u8]) -> Bench {
     show(b"status", times);
-    let a = statuses(bench.floppy, times, bench.lent, out);
+    let a = reads(bench.floppy, false, times, bench.lent, transfer, out);
     answered(bench, a, out)
 }
 
 fn read(bench: Bench, times: usize, transfer: &[u8], out: &mut [u8]) -> Bench {
     show(b"read", times);
     let room = buffer::part(transfer, 0, bench.transfer);
-    let a = reads(bench.floppy, times, bench.lent, room, out);
+    let a = reads(bench.floppy, true, times, bench.lent, room, out);
     answered(bench, a, out)
 }
 
@@ -507,7 +483,7 @@ fn lend(mut bench: Bench, which: usize, text: &[u8]) -> Bench {
 
 // A byte of the table is changed.
 fn set_table(at: usize, text: &[u8], table: &mut [u8]) {
-    let b = image::byte(text, 0);
+    let b = fields::byte(text, 0);
     show(b"table", at);
     replay::field(b as u64);
     replay::put(b"\n");
@@ -575,7 +551,7 @@ fn at_ports(
     match kind {
         1 => put(bench, number),
         2 => motor(bench, number == 1),
-        3 => status(bench, number, out),
+        3 => status(bench, number, transfer, out),
         4 => read(bench, number, transfer, out),
         6 => {
             ask(bench);
@@ -639,7 +615,7 @@ fn play(
     let stop = least(calls.len(), LARGEST);
     let mut at: usize = 0;
     while at < stop {
-        let kind = image::byte(calls, at);
+        let kind = fields::byte(calls, at);
         let number = word_at(calls, at + 1);
         let len = word_at(calls, at + 3);
         let next = at + 5 + len;
@@ -697,9 +673,9 @@ fn take_block(block: &mut [u8]) -> Block {
 // Loads a disk: a fresh one where there is no image.
 fn load(image: &[u8], table: &mut [u8], bytes: &mut [u8]) -> Done {
     if image.len() == 0 {
-        return store::new_formatted(table, bytes);
+        return loading::new_formatted(table, bytes);
     }
-    store::new(image, table, bytes)
+    loading::new(image, table, bytes)
 }
 
 // Loads a disk; no where it is refused.

@@ -1,5 +1,4 @@
 -- Laws that more than one proof cites, and those that the crate above uses.
-pub mod Rows
 pub mod Numbers
 pub mod Seen
 pub mod Polls

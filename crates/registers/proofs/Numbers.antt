@@ -7,13 +7,13 @@ use mathlib.Core.List.{List}
 use lib.ListN.{length, getD}
 use lib.Dec.{eqb, ltb, leb}
 use borrow.Author.Tests.{ltb-false, leb-false, eqb-true, not-false}
-use Rattle.image.specs.Model.{sizeOf}
+use Rattle.fields.specs.Model.{sizeOf}
 use Rattle.store.specs.Store.{transferRoom}
 use Rattle.registers.specs.declared.regs.Regs.{Regs}
 use Rattle.registers.specs.declared.regs.Pending.{Pending}
-use Rattle.registers.specs.Table.{kindOf, bytesFor}
+use Rattle.kinds.specs.Table.{kindOf, bytesFor}
 use Rattle.registers.specs.View.{impossible, impossibleIn, wrongWrite}
-use Rattle.registers.proofs.Rows.{bytes-range}
+use Rattle.kinds.proofs.Rows.{bytes-range}
 
 neither : (a b : Bool) → (a || b) ≡ false → (a ≡ false) × (b ≡ false)
 neither true b e = let z : _≡_ {A = ℕ} 0 1 = cc in absurd (omega arith)

@@ -10,7 +10,7 @@ use lib.ListN.{length, getD, take, drop, drop-of-length-le}
 use lib.Seq.{slice, slice-cons, length-take-le}
 use lib.Dec.{eqb, ltb}
 use borrow.Author.Tests.{ltb-true, ltb-false, lt-ltb}
-use Rattle.image.specs.declared.refusal.Refusal.the-variants.{BadController}
+use Rattle.fields.specs.declared.refusal.Refusal.the-variants.{BadController}
 use Rattle.store.specs.Store.{diskOf}
 use Rattle.store.specs.declared.answer.Done.the-variants as finished
 use Rattle.registers.specs.declared.regs.Regs.{Regs}

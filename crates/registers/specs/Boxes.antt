@@ -3,9 +3,9 @@ use Prim.Native.Nat.{ℕ, _+_, _%_}
 use mathlib.Core.Bool.{Bool}
 use mathlib.Core.List.{List, [], _∷_, _++_}
 use mathlib.Core.Option.{Option, none, some}
-use Rattle.image.specs.Refusals.{Result, refused, good}
-use Rattle.image.specs.Model.{Disk}
-use Rattle.image.specs.declared.id.SectorId.{SectorId}
+use Rattle.fields.specs.Refusals.{Result, refused, good}
+use Rattle.fields.specs.Model.{Disk}
+use Rattle.fields.specs.declared.id.SectorId.{SectorId}
 use Rattle.registers.specs.declared.regs.Seek.{Seek}
 use Rattle.registers.specs.declared.regs.Seek.the-variants.{Idle, Running, Done}
 

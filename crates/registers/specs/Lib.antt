@@ -1,7 +1,7 @@
--- Up to `Ports`, definitions that a reader must believe: the boxes, the table of commands, what port reads do.
+-- Up to `Ports`, definitions that a reader must believe: the boxes, and what port reads do.
+-- The table of commands stands in `kinds`.
 -- Behind it, the same on the controller's numbers: `View` says which boxes they are, `Settle` and `Calls` what each change and call leaves.
 pub mod Boxes
-pub mod Table
 pub mod Ports
 pub mod View
 pub mod Settle

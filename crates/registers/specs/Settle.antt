@@ -4,7 +4,7 @@ use mathlib.Core.Bool.{Bool, true, false}
 use mathlib.Core.List.{List, [], _∷_, _++_}
 use lib.ListN.{length, set, replicate}
 use lib.Dec.{ltb}
-use Rattle.image.specs.Refusals.{Result, refused, good}
+use Rattle.fields.specs.Refusals.{Result, refused, good}
 use Rattle.store.specs.declared.answer.Done.{Done as Finished}
 use Rattle.store.specs.declared.answer.Done.the-variants as finished
 use Rattle.registers.specs.declared.regs.Regs.{Regs}

@@ -6,13 +6,13 @@ use mathlib.Core.Option.{Option, none, some}
 use lib.ListN.{length, getD, take}
 use lib.Seq.{slice}
 use lib.Dec.{eqb, ltb, leb}
-use Rattle.image.specs.Refusals.{Result, refused, good}
-use Rattle.image.specs.Model.{sizeOf, Disk}
+use Rattle.fields.specs.Refusals.{Result, refused, good}
+use Rattle.fields.specs.Model.{sizeOf, Disk}
 use Rattle.store.specs.Store.{roomOf, diskOf, transferRoom}
 use Rattle.registers.specs.declared.regs.Regs.{Regs}
 use Rattle.registers.specs.declared.regs.Pending.{Pending}
 use Rattle.registers.specs.Boxes.{Setting, Slot, Empty, Holds, Writing, Inside, Front, World}
-use Rattle.registers.specs.Table.{kindOf, bytesFor}
+use Rattle.kinds.specs.Table.{kindOf, bytesFor}
 
 -- ---- The boxes
 

@@ -1,5 +1,4 @@
 // Reads of the two ports, and the calls that ask or change one box.
-use crate::bits::MainReg;
 use crate::regs::Byte;
 use crate::regs::Drive;
 use crate::regs::Flag;
@@ -7,7 +6,8 @@ use crate::regs::Regs;
 use crate::regs::Seek;
 use crate::regs::Told;
 use crate::regs::Written;
-use image::Refusal;
+use fields::Refusal;
+use kinds::MainReg;
 use store::transfer_room;
 ghost use mathlib.Core.Path.{_≡_};
 ghost use Prim.Native.Nat.{_<_, _≤_};

@@ -1,15 +1,15 @@
 // The controller's numbers, without the bytes of an unfinished write, and the changes that they go through.
-use crate::kind::bytes_for;
-use crate::kind::kind_of;
-use image::Refusal;
-use image::SectorId;
+use fields::Refusal;
+use fields::SectorId;
+use kinds::bytes_for;
+use kinds::kind_of;
 use store::Done;
 ghost use mathlib.Core.Path.{_≡_};
 ghost use mathlib.Core.List.{_∷_, []};
 ghost use Prim.Native.Nat.{_<_};
 ghost use lib.ListN.{getD};
 ghost use lib.Dec.{leb};
-ghost use Rattle.registers.specs.Table.{kindOf, bytesFor};
+ghost use Rattle.kinds.specs.Table.{kindOf, bytesFor};
 ghost use Rattle.registers.specs.Boxes.{Add, Hold, Clear, Turn, Start, Finish, MoveTo};
 ghost use Rattle.registers.specs.View.{impossible, wrongWrite};
 ghost use Rattle.registers.specs.Settle.{replied, sought, withDrive, regsTaken, regsChanged, kept};

@@ -1,9 +1,14 @@
 // How the programs that replay a list take its records and print their answers. docs/ORACLE.md has the forms.
+ghost use mathlib.Core.Path.{_≡_};
 ghost use Prim.Native.Nat.{_+_, _*_, _<_, _≤_};
-use image::Row;
-use image::SectorId;
+ghost use lib.ListN.{length};
+ghost use Rattle.fields.specs.Bytes.{byteAt};
+ghost use Rattle.store.specs.Spots.{surveyOf};
+ghost use Rattle.replay.specs.Answers.{checkFrom, heldIn, numberIn, Fits, Held};
+use fields::SectorId;
 use libc::STDIN_FILENO;
 use libc::STDOUT_FILENO;
+use tracks::Row;
 
 // Past the rows of any table.
 const ROWS_END: usize = 17609;
@@ -31,18 +36,20 @@ pub fn field(n: u64) {
     io::print_decimal(STDOUT_FILENO, n);
 }
 
-pub fn refused(why: image::Refusal) {
+pub fn refused(why: fields::Refusal) {
     put(b"refused");
     field(why.number() as u64);
     put(b"\n");
 }
 
 // A number that tells one list of bytes from another.
-pub fn check_of(bytes: &[u8]) -> u64 {
+pub fn check_of(bytes: &[u8]) -> u64
+    ensures { λ r. ⌜ r ≡ checkFrom 0 (now (bytes .entry)) ⌝ }
+{
     let mut h: u64 = 0;
     let mut i = 0;
     while i < bytes.len() {
-        let b = bytes[i] as u64;
+        let b = fields::byte(bytes, i) as u64;
         h = (h * 16777619 + b) % 4294967291;
         i += 1;
     }
@@ -72,8 +79,11 @@ fn show_sector(row: Row, content: &[u8]) {
     show_content(content);
 }
 
-pub fn byte(table: &[u8], at: usize) -> u64 {
-    image::byte(table, at) as u64
+// The byte at a place of the table, 0 past the end.
+pub fn byte(table: &[u8], at: usize) -> u64
+    ensures { λ r. ⌜ r ≡ byteAt (now (table .entry)) at ⌝ }
+{
+    fields::byte(table, at) as u64
 }
 
 // The track at a place of the table.
@@ -98,7 +108,7 @@ fn show_sectors(table: &[u8], bytes: &[u8], start: usize, count: usize, first: u
     let mut place = first;
     let mut k: usize = 0;
     while k < count {
-        let row = image::row_at(table, start + 8 * k);
+        let row = tracks::row_at(table, start + 8 * k);
         let stored = row.stored as usize;
         show_sector(row, buffer::part(bytes, place, stored));
         place += stored;
@@ -109,14 +119,14 @@ fn show_sectors(table: &[u8], bytes: &[u8], start: usize, count: usize, first: u
 
 // The disk, by the layout of docs/STORE.md.
 pub fn show_tracks(table: &[u8], bytes: &[u8]) {
-    let mut left = image::byte(table, 0);
+    let mut left = fields::byte(table, 0);
     let mut at: usize = 1;
     let mut place: usize = 0;
     while 0 < left {
         if ROWS_END <= at {
             return;
         }
-        let count = image::byte(table, at + 5);
+        let count = fields::byte(table, at + 5);
         show_track(table, at);
         place = show_sectors(table, bytes, at + 6, count, place);
         at += 6 + 8 * count;
@@ -124,43 +134,26 @@ pub fn show_tracks(table: &[u8], bytes: &[u8]) {
     }
 }
 
-// The bytes of `count` rows, on top of those before them.
-fn rows_len(table: &[u8], start: usize, count: usize, first: usize) -> usize
-    requires { ⌜ (start < 20000) × ((count < 256) × (first < 4294967296)) ⌝ }
-    ensures { λ r. ⌜ r ≤ first + 65535 * count ⌝ }
+// How much the disk of a table holds; nothing where the table breaks the layout.
+pub fn measure(table: &[u8]) -> Totals
+    ensures { λ r. ⌜ r ≡ heldIn (surveyOf (now (table .entry)) 1048576) (byteAt (now (table .entry)) 0) ⌝ }
 {
-    let mut total = first;
-    let mut k: usize = 0;
-    while k < count {
-        let row = image::row_at(table, start + 8 * k);
-        total += row.stored as usize;
-        k += 1;
-    }
-    total
-}
-
-// How much the disk of a table holds.
-pub fn measure(table: &[u8]) -> Totals {
-    let tracks = image::byte(table, 0);
-    let mut left = tracks;
-    let mut at: usize = 1;
-    let mut sectors: usize = 0;
-    let mut bytes: usize = 0;
-    while 0 < left {
-        if ROWS_END <= at {
-            left = 0;
-            continue;
-        }
-        let count = image::byte(table, at + 5);
-        sectors += count;
-        bytes = rows_len(table, at + 6, count, bytes);
-        at += 6 + 8 * count;
-        left -= 1;
-    }
-    Totals {
-        tracks,
-        sectors,
-        bytes,
+    let tracks = fields::byte(table, 0);
+    match store::survey(table, store::ROOM) {
+        store::Totals::Bad => Totals {
+            tracks: 0,
+            sectors: 0,
+            bytes: 0,
+        },
+        store::Totals::Good {
+            sectors,
+            bytes,
+            end: _,
+        } => Totals {
+            tracks,
+            sectors,
+            bytes,
+        },
     }
 }
 
@@ -175,15 +168,19 @@ pub fn show_totals(tracks: usize, sectors: usize, bytes: usize) {
 }
 
 // The number in the four bytes at a place, 0 where they are not all there.
-pub fn number(bytes: &[u8], at: usize) -> usize {
-    match image::read_u32(bytes, at) {
-        image::Read::Refused(_) => 0,
-        image::Read::Number(n) => n as usize,
+pub fn number(bytes: &[u8], at: usize) -> usize
+    ensures { λ r. ⌜ r ≡ numberIn (now (bytes .entry)) at ⌝ }
+{
+    match fields::read_u32(bytes, at) {
+        fields::Read::Refused(_) => 0,
+        fields::Read::Number(n) => n as usize,
     }
 }
 
 // Reads n bytes to the front of a buffer; no where the input ends first.
-pub fn take(buf: &mut [u8], n: usize) -> bool {
+pub fn take(buf: &mut [u8], n: usize) -> bool
+    ensures { λ r. ⌜ Fits r n (length (now (buf .entry))) ⌝ }
+{
     if buf.len() < n {
         return false;
     }
@@ -191,7 +188,9 @@ pub fn take(buf: &mut [u8], n: usize) -> bool {
 }
 
 // Takes a record that begins with a name and an image, and leaves both in their buffers.
-pub fn take_record(name: &mut [u8], image: &mut [u8]) -> Record {
+pub fn take_record(name: &mut [u8], image: &mut [u8]) -> Record
+    ensures { λ r. ⌜ Held r (length (now (name .entry))) (length (now (image .entry))) ⌝ }
+{
     let mut small = [0u8; 4];
     let four: &mut [u8] = &mut small;
     if !take(four, 1) {

@@ -8,8 +8,8 @@ use mathlib.Core.Option.{Option, none, some}
 use lib.ListN.{length}
 use lib.Dec.{eqb, ltb}
 use borrow.Author.Tests.{le-ltb}
-use Rattle.image.specs.Refusals.{Result, refused, good, after}
-use Rattle.image.specs.declared.refusal.Refusal.the-variants.{BadController}
+use Rattle.fields.specs.Refusals.{Result, refused, good, after}
+use Rattle.fields.specs.declared.refusal.Refusal.the-variants.{BadController}
 use Rattle.store.specs.Store.{roomOf, transferRoom, diskOf}
 use Rattle.store.specs.declared.answer.Done.{Done as Finished}
 use Rattle.store.specs.declared.answer.Done.the-variants as finished
@@ -23,12 +23,12 @@ use Rattle.registers.specs.Settle.{sought, regsTaken, heldTaken, regsAll, regsS
 use Rattle.registers.specs.Calls.{statusOf, regsPolled, afterStatusOf, toldIf, statusRead, sourceOf, byteFrom, regsRead, dataRead}
 use Rattle.registers.proofs.Numbers.{possible, possible-in, until-in}
 use Rattle.registers.proofs.Seen.{status-seen, read-seen}
-use Rattle.commands.specs.Machine.{sent, done, writePort}
+use Rattle.sending.specs.Machine.{sent, done, writePort}
 use Rattle.commands.specs.Lent.{tableWith, dataWith, transferWith, Left, left, leftOf}
-use Rattle.commands.specs.Calls.{sentTo, dataWrite}
+use Rattle.sending.specs.Calls.{sentTo, dataWrite}
 use Rattle.floppy.specs.Calls.{Wrote, wrote, wroteAs}
-use Rattle.commands.proofs.Seen.{Sees, write-seen, write-refused}
-use Rattle.commands.proofs.Sends.{sent-right}
+use Rattle.sending.proofs.Seen.{Sees, write-seen, write-refused}
+use Rattle.sending.proofs.Sends.{sent-right}
 use Rattle.saves.specs.Events.{Event, poll, read, send, Answer, showed, gave, took, Played, noting, play}
 use Rattle.saves.specs.Hosts.{Host, Called, telling, byteThen, doneThen, withFloppy, wroteThen, calls, Sound, seen, lent}
 use Rattle.saves.proofs.Kept.{Whole, Rooms, whole-sent, sent-room, transfer-kept, room-kept}

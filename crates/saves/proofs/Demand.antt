@@ -8,18 +8,18 @@ use mathlib.Core.Option.{none}
 use lib.ListN.{length}
 use lib.Dec.{eqb, leb}
 use borrow.Author.Tests.{eq-eqb}
-use Rattle.image.specs.Refusals.{Result, refused, good, need, after}
-use Rattle.image.specs.Model.{sizeOf, Sector, Disk, byteCount}
-use Rattle.image.specs.declared.id.SectorId.{SectorId}
-use Rattle.image.specs.declared.refusal.Refusal.{Refusal}
-use Rattle.image.specs.declared.refusal.Refusal.the-variants.{NoRoom}
-use Rattle.image.proofs.Sizes.{size-pos}
+use Rattle.fields.specs.Refusals.{Result, refused, good, need, after}
+use Rattle.fields.specs.Model.{sizeOf, Sector, Disk, byteCount}
+use Rattle.fields.specs.declared.id.SectorId.{SectorId}
+use Rattle.fields.specs.declared.refusal.Refusal.{Refusal}
+use Rattle.fields.specs.declared.refusal.Refusal.the-variants.{NoRoom}
+use Rattle.fields.proofs.Sizes.{size-pos}
 use Rattle.store.specs.Find.{Found, nothing, found}
 use Rattle.store.specs.Search.{sectorAt}
 use Rattle.disk.specs.Change.{withContent, saved}
-use Rattle.registers.specs.declared.kind.Kind.the-variants.{SeekTo, WriteData}
+use Rattle.kinds.specs.declared.kind.Kind.the-variants.{SeekTo, WriteData}
 use Rattle.registers.specs.Boxes.{Setting, Slot, Holds, Inside, World, Finish, changed, allChanged, putIn}
-use Rattle.registers.specs.Table.{kindOf, kindBy, rows, bytesFor}
+use Rattle.kinds.specs.Table.{kindOf, kindBy, rows, bytesFor}
 use Rattle.commands.specs.Commands.{driveOf, headOf, named, puts, seekIf, startAt, writeData, writeReply, saveAt, written, obeyed}
 use Rattle.saves.specs.Events.{Event, Played, play, sentIn}
 use Rattle.saves.specs.Words.{Ready, Address, Save, bytesOf, addressOf, IsSave, savedAt, savedBy}

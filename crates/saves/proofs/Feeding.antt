@@ -9,15 +9,15 @@ use lib.ListN.{length, length-append}
 use lib.Seq.{append-snoc}
 use lib.Dec.{eqb}
 use borrow.Author.Tests.{eq-eqb, ne-eqb}
-use Rattle.image.specs.Refusals.{Result, refused, good, after}
-use Rattle.image.specs.Model.{sizeOf, Disk}
-use Rattle.image.specs.declared.id.SectorId.{SectorId}
-use Rattle.registers.specs.declared.kind.Kind.{Kind}
+use Rattle.fields.specs.Refusals.{Result, refused, good, after}
+use Rattle.fields.specs.Model.{sizeOf, Disk}
+use Rattle.fields.specs.declared.id.SectorId.{SectorId}
+use Rattle.kinds.specs.declared.kind.Kind.{Kind}
 use Rattle.registers.specs.Boxes.{Setting, Slot, Holds, Writing, Inside, World, Taking, Add, Hold, Effect, Sent, withCommand, withWrite, taken, changed, allChanged, putIn}
-use Rattle.registers.specs.Table.{kindOf, bytesFor}
+use Rattle.kinds.specs.Table.{kindOf, bytesFor}
 use Rattle.registers.specs.Ports.{status, afterStatus, portByte, afterRead}
 use Rattle.commands.specs.Commands.{byte, does, obeyed, written}
-use Rattle.commands.specs.Machine.{sends, clearing, commandIf, commandByte, dataIf, dataByte, byteFor, sent, done, writePort}
+use Rattle.sending.specs.Machine.{sends, clearing, commandIf, commandByte, dataIf, dataByte, byteFor, sent, done, writePort}
 use Rattle.saves.specs.Events.{Event, poll, read, send, Answer, showed, gave, took, Played, noting, play, sentIn}
 
 -- ---- a byte, inside

@@ -5,12 +5,12 @@ use native.Mathlib.Omega.{arith}
 use mathlib.Core.Bool.{Bool, true, false}
 use mathlib.Core.List.{List, [], _∷_, _++_}
 use lib.ListN.{length, take}
-use Rattle.image.specs.Refusals.{Result, refused, good, after}
-use Rattle.image.specs.Model.{Disk}
+use Rattle.fields.specs.Refusals.{Result, refused, good, after}
+use Rattle.fields.specs.Model.{Disk}
 use Rattle.store.specs.Store.{diskOf}
 use Rattle.registers.specs.Boxes.{Setting, Slot, Empty, Holds, World}
 use Rattle.registers.specs.View.{slotIf, insideOf}
-use Rattle.commands.specs.Machine.{writePort}
+use Rattle.sending.specs.Machine.{writePort}
 use Rattle.saves.specs.Events.{Event, poll, read, send, Answer, took, Played, noting, play, sentIn}
 use Rattle.saves.specs.Words.{Ready, Save, bytesOf, addressOf, IsSave, savedBy, ReadsBack, readBytes, replyTo, LosesNone, dataReads, givenIn}
 use Rattle.saves.specs.Hosts.{Host, Called, calls, Sound, seen, lent}

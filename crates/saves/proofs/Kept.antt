@@ -10,10 +10,10 @@ use lib.Dec.{eqb, ltb, leb}
 use borrow.Author.Tests.{leb-true}
 use Rattle.buffer.specs.Over.{over}
 use Rattle.buffer.proofs.Overs.{over-length}
-use Rattle.image.specs.Refusals.{Result, refused, good, need, after}
-use Rattle.image.specs.Model.{sizeOf, Sector, Disk, byteCount}
-use Rattle.image.specs.declared.id.SectorId.{SectorId}
-use Rattle.image.specs.declared.refusal.Refusal.the-variants.{NoRoom, NoTransferRoom}
+use Rattle.fields.specs.Refusals.{Result, refused, good, need, after}
+use Rattle.fields.specs.Model.{sizeOf, Sector, Disk, byteCount}
+use Rattle.fields.specs.declared.id.SectorId.{SectorId}
+use Rattle.fields.specs.declared.refusal.Refusal.the-variants.{NoRoom, NoTransferRoom}
 use Rattle.store.specs.Find.{Found, nothing, found}
 use Rattle.store.specs.Search.{sectorAt, sectorByIndex, readAt}
 use Rattle.store.specs.Store.{roomOf, transferRoom, contents, tableOf, dataOf, diskOf}
@@ -22,17 +22,17 @@ use Rattle.store.specs.Calls.{fitting}
 use Rattle.store.proofs.Rounds.{data-length}
 use Rattle.disk.specs.Change.{saved, setTrack}
 use Rattle.disk.proofs.Accepts.{Allowed, fitting-good}
-use Rattle.registers.specs.declared.kind.Kind.{Kind}
-use Rattle.registers.specs.declared.kind.Kind.the-variants.{Specify, SenseDrive, Recalibrate, SenseInterrupt, SeekTo, Version, ReadData, ReadDeleted, WriteData, ReadId, FormatTrack, Unserved, Invalid}
+use Rattle.kinds.specs.declared.kind.Kind.{Kind}
+use Rattle.kinds.specs.declared.kind.Kind.the-variants.{Specify, SenseDrive, Recalibrate, SenseInterrupt, SeekTo, Version, ReadData, ReadDeleted, WriteData, ReadId, FormatTrack, Unserved, Invalid}
 use Rattle.registers.specs.declared.regs.Regs.{Regs}
 use Rattle.registers.specs.declared.regs.Seek.{Seek}
 use Rattle.registers.specs.declared.regs.Seek.the-variants.{Idle, Running, Done}
 use Rattle.registers.specs.Boxes.{Setting, Slot, Empty, Holds, Inside, Writing, Taking, Add, Hold, Change, Clear, MoveTo, Turn, Start, Finish, Shift, Stay, Reply, ReplyIfNone, Seeking, Interrupt, Serve, Effect, Sent}
-use Rattle.registers.specs.Table.{kindOf, bytesFor}
+use Rattle.kinds.specs.Table.{kindOf, bytesFor}
 use Rattle.registers.specs.View.{settingOf}
 use Rattle.registers.specs.Settle.{replied, regsTaken, heldTaken, regsChanged, regsAll, ifUnread, interruptedBy, regsShifted}
 use Rattle.commands.specs.Commands.{byte, idOf, u, driveOf, headOf, inDrive, named, does, puts, seekIf, readReply, sizesOf, servedAs, readData, startAt, writeData, writeReply, saveAt, written, idAt, readId, formatTrack, obeyed}
-use Rattle.commands.specs.Machine.{sends, clearing, commandIf, commandByte, dataIf, dataByte, byteFor, sent}
+use Rattle.sending.specs.Machine.{sends, clearing, commandIf, commandByte, dataIf, dataByte, byteFor, sent}
 use Rattle.commands.specs.Lent.{dataWith, transferWith}
 
 -- ---- what an effect asks of the rooms

@@ -7,9 +7,9 @@ use mathlib.Core.Bool.{Bool, true, false, _&&_}
 use mathlib.Core.List.{List, [], _∷_, _++_}
 use lib.Dec.{eqb}
 use borrow.Author.Tests.{eqb-true}
-use Rattle.image.specs.Model.{Sector, Track, Disk}
-use Rattle.image.specs.declared.id.SectorId.{SectorId}
-use Rattle.store.proofs.Checks.{and-fst, and-snd}
+use Rattle.fields.specs.Model.{Sector, Track, Disk}
+use Rattle.fields.specs.declared.id.SectorId.{SectorId}
+use Rattle.fields.proofs.Tests.{and-fst, and-snd}
 use Rattle.store.specs.Find.{Found, nothing, found, findFrom, find}
 use Rattle.store.specs.Search.{isTrack, isSector, inTrack, sectorAt}
 use Rattle.disk.specs.Change.{change, withContent, savedIn, saved}

@@ -8,20 +8,20 @@ use mathlib.Core.Option.{none}
 use lib.ListN.{length, take, length-append}
 use lib.Dec.{eqb, leb}
 use borrow.Author.Tests.{eq-eqb}
-use Rattle.image.specs.Refusals.{Result, refused, good, need, after}
-use Rattle.image.specs.Model.{sizeOf, total, Sector, Track, Disk}
-use Rattle.image.specs.declared.id.SectorId.{SectorId}
-use Rattle.image.specs.declared.refusal.Refusal.the-variants.{NoTransferRoom}
+use Rattle.fields.specs.Refusals.{Result, refused, good, need, after}
+use Rattle.fields.specs.Model.{sizeOf, total, Sector, Track, Disk}
+use Rattle.fields.specs.declared.id.SectorId.{SectorId}
+use Rattle.fields.specs.declared.refusal.Refusal.the-variants.{NoTransferRoom}
 use Rattle.store.specs.Find.{Found, nothing, found, findFrom, find}
 use Rattle.store.specs.Search.{isTrack, isSector, inTrack, sectorAt, joined, runFrom, readIn, readAt}
 use Rattle.store.specs.Store.{contents}
 use Rattle.disk.specs.Change.{withContent}
-use Rattle.registers.specs.declared.kind.Kind.the-variants.{ReadData}
+use Rattle.kinds.specs.declared.kind.Kind.the-variants.{ReadData}
 use Rattle.registers.specs.Boxes.{Setting, Holds, Inside, Front, World, Add, Clear, Serve, Effect, Sent, shifted}
-use Rattle.registers.specs.Table.{kindOf, bytesFor}
+use Rattle.kinds.specs.Table.{kindOf, bytesFor}
 use Rattle.registers.specs.Ports.{some?, polled, Poll, Stays, Counts, Drops, afterStatus, sourceBy, given, readFrom, portByte, afterRead}
 use Rattle.commands.specs.Commands.{byte, u, driveOf, headOf, named, does, withBit, endOf, markOf, sizesOf, readReply, servedAs, readData, obeyed}
-use Rattle.commands.specs.Machine.{sends, clearing, commandIf, commandByte, byteFor, sent, done, writePort}
+use Rattle.sending.specs.Machine.{sends, clearing, commandIf, commandByte, byteFor, sent, done, writePort}
 use Rattle.saves.specs.Events.{Event, poll, read, send, Answer, showed, gave, took, Played, noting, play, sentIn}
 use Rattle.saves.specs.Words.{Ready, Save, bytesOf, addressOf, IsSave, savedAt, savedBy, ReadsBack, readBytes, replyTo, LosesNone, dataReads, givenIn}
 use Rattle.saves.proofs.Finds.{mapFound}

@@ -5,8 +5,8 @@ use native.Mathlib.Omega.{arith}
 use mathlib.Core.Bool.{Bool, true, false}
 use mathlib.Core.List.{List, [], _∷_, _++_}
 use lib.ListN.{length, take, replicate, length-replicate}
-use Rattle.image.specs.Refusals.{Result, refused, good}
-use Rattle.image.specs.Model.{sizeOf, total, Disk, sectorCount, byteCount}
+use Rattle.fields.specs.Refusals.{Result, refused, good}
+use Rattle.fields.specs.Model.{sizeOf, total, Disk, sectorCount, byteCount}
 use Rattle.store.specs.Find.{findFrom}
 use Rattle.buffer.specs.Over.{over}
 use Rattle.store.specs.Search.{sectorAt, runFrom, readAt}
@@ -16,13 +16,13 @@ use borrow.Author.Tests.{leb-true}
 use Rattle.store.specs.Fresh.{blank, blanksFrom, formatted, freshFrom, fresh}
 use Rattle.disk.specs.Change.{change, saved}
 use Rattle.registers.specs.Boxes.{Setting, Holds, World, newWorld, taken, changed, allChanged, putIn, shifted}
-use Rattle.registers.specs.Table.{maskRows, rows, kindBy, kindOf}
+use Rattle.kinds.specs.Table.{maskRows, rows, kindBy, kindOf}
 use Rattle.registers.specs.Ports.{afterRead, changeDisk}
 use Rattle.registers.specs.View.{insideOf, impossible, impossibleIn}
 use Rattle.registers.specs.Calls.{diskSet}
 use Rattle.floppy.specs.Calls.{newFloppy}
 use Rattle.commands.specs.Commands.{withBit, seekIf, servedAs, readData, startAt, writeData, writeReply, saveAt, written, obeyed}
-use Rattle.commands.specs.Machine.{commandIf, commandByte, dataIf, dataByte, byteFor, sent, done, writePort}
+use Rattle.sending.specs.Machine.{commandIf, commandByte, dataIf, dataByte, byteFor, sent, done, writePort}
 use Rattle.saves.specs.Events.{Event, read, send, Played, play, sentIn}
 use Rattle.saves.specs.Words.{Ready, Address, Save, bytesOf, addressOf, IsSave, savedBy, ReadsBack, readBytes, replyTo, LosesNone, dataReads, givenIn}
 use Rattle.saves.specs.Hosts.{Host, Called, calls, Sound, seen}

@@ -1,10 +1,10 @@
 -- Port calls, and runs of them.
 use Prim.Native.Nat.{ℕ}
 use mathlib.Core.List.{List, [], _∷_}
-use Rattle.image.specs.Refusals.{Result, refused, good, after}
+use Rattle.fields.specs.Refusals.{Result, refused, good, after}
 use Rattle.registers.specs.Boxes.{Setting, World}
 use Rattle.registers.specs.Ports.{status, afterStatus, portByte, afterRead}
-use Rattle.commands.specs.Machine.{writePort}
+use Rattle.sending.specs.Machine.{writePort}
 
 -- a status read, a data-port read, a byte sent to the data port
 pub data Event : Type 0 where

@@ -4,7 +4,7 @@ use Prim.Native.Nat.{ℕ}
 use mathlib.Core.Bool.{false}
 use mathlib.Core.List.{List, [], _∷_}
 use lib.ListN.{length}
-use Rattle.image.specs.Refusals.{Result, refused, good}
+use Rattle.fields.specs.Refusals.{Result, refused, good}
 use Rattle.store.specs.declared.answer.Done.{Done}
 use Rattle.store.specs.declared.answer.Done.the-variants as finished
 use Rattle.registers.specs.declared.regs.Byte.{Byte}
@@ -14,7 +14,7 @@ use Rattle.registers.specs.View.{settingOf, worldOf, impossibleIn}
 use Rattle.registers.specs.Calls.{statusRead, dataRead}
 use Rattle.floppy.specs.declared.Floppy.{Floppy}
 use Rattle.floppy.specs.declared.Shown.{Shown}
-use Rattle.commands.specs.Calls.{dataWrite}
+use Rattle.sending.specs.Calls.{dataWrite}
 use Rattle.floppy.specs.Calls.{shownAs, Wrote, wrote, wroteAs}
 use Rattle.saves.specs.Events.{Event, poll, read, send, Answer, showed, gave, took}
 

@@ -4,15 +4,15 @@ use Prim.Native.Nat.{ℕ, suc, _+_, _≤_}
 use mathlib.Core.List.{List, [], _∷_}
 use mathlib.Core.Option.{none}
 use lib.ListN.{length}
-use Rattle.image.specs.Refusals.{good}
-use Rattle.image.specs.Model.{sizeOf, Sector, Disk}
-use Rattle.image.specs.declared.id.SectorId.{SectorId}
+use Rattle.fields.specs.Refusals.{good}
+use Rattle.fields.specs.Model.{sizeOf, Sector, Disk}
+use Rattle.fields.specs.declared.id.SectorId.{SectorId}
 use Rattle.store.specs.Find.{found}
 use Rattle.store.specs.Search.{sectorAt}
 use Rattle.disk.specs.Change.{saved}
-use Rattle.registers.specs.declared.kind.Kind.the-variants.{ReadData, WriteData}
+use Rattle.kinds.specs.declared.kind.Kind.the-variants.{ReadData, WriteData}
 use Rattle.registers.specs.Boxes.{Holds, World}
-use Rattle.registers.specs.Table.{kindOf}
+use Rattle.kinds.specs.Table.{kindOf}
 use Rattle.registers.specs.Ports.{afterStatus, afterRead}
 use Rattle.commands.specs.Commands.{u, driveOf, headOf, withBit}
 use Rattle.saves.specs.Events.{Event, poll, read, send, Answer, showed, gave, took}

@@ -192,7 +192,7 @@ fn operands(name: Name, text: &[u8], spare: &mut Spare) -> Parsed {
 pub fn parse(text: &[u8], spare: &mut Spare) -> Parsed {
     let words = line::count(text);
     let first = line::word(text, 0);
-    if words == 0 || image::byte(first, 0) == HASH {
+    if words == 0 || fields::byte(first, 0) == HASH {
         return Parsed::Nothing;
     }
     let name = name_of(first);

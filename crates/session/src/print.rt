@@ -17,7 +17,7 @@ pub const ROW: usize = 16;
 fn waiting(out: &Out) -> usize
     ensures { λ r. ⌜ r ≤ 4096 ⌝ }
 {
-    let n = image::byte(out, 0) + 256 * image::byte(out, 1);
+    let n = fields::byte(out, 0) + 256 * fields::byte(out, 1);
     if ROOM < n { ROOM } else { n }
 }
 

@@ -29,7 +29,7 @@ fn fields(table: &[u8], from: usize, count: usize, out: &mut Out) {
 fn sector(table: &[u8], at: usize, out: &mut Out)
     requires { ⌜ at < 65536 ⌝ }
 {
-    let row = image::row_at(table, at);
+    let row = tracks::row_at(table, at);
     let id = row.id;
     let stored = row.stored as usize;
     text(b"sector", out);
@@ -76,13 +76,13 @@ fn totals(table: &[u8], out: &mut Out) {
 
 pub fn disk(table: &[u8], out: &mut Out) {
     totals(table, out);
-    let mut left = image::byte(table, 0);
+    let mut left = fields::byte(table, 0);
     let mut at: usize = 1;
     while 0 < left {
         if ROWS_END <= at {
             return;
         }
-        let count = image::byte(table, at + 5);
+        let count = fields::byte(table, at + 5);
         track(table, at, out);
         sectors(table, at + 6, count, out);
         at += 6 + 8 * count;

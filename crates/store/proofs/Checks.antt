@@ -7,10 +7,11 @@ use mathlib.Core.Bool.{Bool, true, false, _&&_, cond}
 use lib.ListN.{length}
 use lib.Dec.{eqb, leb}
 use borrow.Author.Tests.{eq-eqb, ne-eqb, le-leb, lt-leb, eqb-true, leb-true}
-use Rattle.image.specs.Bytes.{byteAt}
-use Rattle.image.specs.Refusals.{refused, good, need}
-use Rattle.image.specs.Model.{Disk}
-use Rattle.image.specs.declared.refusal.Refusal.the-variants.{BadStore}
+use Rattle.fields.specs.Bytes.{byteAt}
+use Rattle.fields.proofs.Tests.{and-fst, and-snd}
+use Rattle.fields.specs.Refusals.{refused, good, need}
+use Rattle.fields.specs.Model.{Disk}
+use Rattle.fields.specs.declared.refusal.Refusal.the-variants.{BadStore}
 use Rattle.store.specs.Store.{tableLength, roomOf, sumAt, countAt, countsAt, bytesAt, tracksAt, wellLaid, diskOf}
 use Rattle.store.specs.Spots.{endAt, surveyOf, Walkable}
 use Rattle.store.specs.declared.check.Totals.{Totals}
@@ -29,15 +30,6 @@ module _ (v a b : ℕ) (e : v ≡ a) where
 
   pub test-last : eqb v b ≡ eqb a b
   test-last = ap (λ (n : ℕ). eqb n b) e
-
--- both parts of one that holds
-pub and-fst : (x y : Bool) → (x && y) ≡ true → x ≡ true
-and-fst true y e = refl
-and-fst false y e = e
-
-pub and-snd : (x y : Bool) → (x && y) ≡ true → y ≡ true
-and-snd true y e = e
-and-snd false y e = let z : _≡_ {A = ℕ} 0 1 = cc in absurd (omega arith)
 
 -- ---- a table that keeps the layout
 

@@ -8,12 +8,12 @@ use mathlib.Core.Bool.{Bool, true, false, cond, not}
 use lib.ListN.{length, take, drop}
 use lib.Dec.{eqb}
 use lib.Seq.{drop-nil}
-use Rattle.image.specs.Bytes.{byteAt}
-use Rattle.image.specs.Refusals.{Result, refused, good}
-use Rattle.image.specs.Model.{Sector, Track, Disk}
-use Rattle.image.specs.Dsk.{rowAt, sectorOf}
-use Rattle.image.specs.declared.id.SectorId.{SectorId}
-use Rattle.image.specs.declared.refusal.Refusal.the-variants.{BadStore}
+use Rattle.fields.specs.Bytes.{byteAt}
+use Rattle.fields.specs.Refusals.{Result, refused, good}
+use Rattle.fields.specs.Model.{Sector, Track, Disk}
+use Rattle.tracks.specs.Block.{rowAt, sectorOf}
+use Rattle.fields.specs.declared.id.SectorId.{SectorId}
+use Rattle.fields.specs.declared.refusal.Refusal.the-variants.{BadStore}
 use Rattle.store.specs.Find.{Found, nothing, found, findFrom, headFrom, nth}
 use Rattle.store.specs.Search.{isTrack, isSector, inTrack, sectorAt, byIndex, greatest, isSide0}
 use Rattle.store.specs.Calls.{bytesOf, lookupOf, foundOf, hasOf, geometryOf}

@@ -5,11 +5,11 @@ use native.Mathlib.Omega.{arith}
 use native.Mathlib.Nat.{mod-lt}
 use mathlib.Core.List.{List}
 use mathlib.Core.Bool.{true, false}
-use Rattle.image.specs.Model.{Track}
-use Rattle.image.specs.Bytes.{byteAt}
-use Rattle.image.specs.Dsk.{rowAt}
-use Rattle.image.specs.declared.walk.Row.{Row}
-use Rattle.image.specs.declared.refusal.Refusal.the-variants.{BadStore}
+use Rattle.fields.specs.Model.{Track}
+use Rattle.fields.specs.Bytes.{byteAt}
+use Rattle.tracks.specs.Block.{rowAt}
+use Rattle.tracks.specs.declared.track.Row.{Row}
+use Rattle.fields.specs.declared.refusal.Refusal.the-variants.{BadStore}
 use Rattle.store.specs.Find.{Found, find}
 use Rattle.store.specs.Search.{isTrack, turnedIn, sectorByIndex}
 use Rattle.store.specs.Store.{tracksAt, countAt, diskOf, roomOf, wellLaid}

@@ -4,6 +4,4 @@ pub mod Checks
 pub mod Walks
 pub mod Founds
 pub mod Rounds
-pub mod Lays
-pub mod Loads
 pub mod Indexes

@@ -8,11 +8,11 @@ use lib.ListN.{length, take, drop, length-append}
 use lib.Seq.{getD-drop, drop-drop, take-at, drop-at}
 use Rattle.buffer.specs.Over.{over}
 use Rattle.buffer.proofs.Overs.{over-length}
-use Rattle.image.specs.Bytes.{byteAt, numberAt}
-use Rattle.image.specs.Refusals.{good}
-use Rattle.image.specs.Model.{Sector, Track, Disk, total, trackBytes, sectorCount, byteCount}
-use Rattle.image.specs.Dsk.{rowAt}
-use Rattle.image.specs.declared.walk.Row.{Row}
+use Rattle.fields.specs.Bytes.{byteAt, numberAt}
+use Rattle.fields.specs.Refusals.{good}
+use Rattle.fields.specs.Model.{Sector, Track, Disk, total, trackBytes, sectorCount, byteCount}
+use Rattle.tracks.specs.Block.{rowAt}
+use Rattle.tracks.specs.declared.track.Row.{Row}
 use Rattle.store.specs.Store.{tableLength, roomOf, rowFor, rowsFor, tracksFor, tableOf, contents, dataOf, sectorsAt, sumAt, countAt, nextAt, trackSum, trackAt, tracksAt, countsAt, bytesAt, diskOf}
 use Rattle.store.proofs.Checks.{Kept, well-laid, disk-good}
 

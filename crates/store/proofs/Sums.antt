@@ -3,8 +3,8 @@ use mathlib.Core.Path.{_≡_, refl, ap, _∙_}
 use Prim.Native.Nat.{ℕ, zero, suc, _+_, _-_, _*_, _≤_, _<_}
 use native.Mathlib.Omega.{arith}
 use mathlib.Core.List.{List}
-use Rattle.image.specs.Dsk.{rowAt}
-use Rattle.image.proofs.Tracks.{down}
+use Rattle.tracks.specs.Block.{rowAt}
+use Rattle.tracks.proofs.Tracks.{down}
 use Rattle.store.specs.Store.{tableLength, sumAt, countAt, nextAt, trackSum, countsAt, bytesAt}
 use Rattle.store.specs.Spots.{endAt}
 

@@ -8,10 +8,10 @@ use mathlib.Core.Logic.{_⊎_, ⊎-elim}
 use mathlib.Core.Bool.{true, false, cond}
 use lib.Dec.{eqb}
 use borrow.Author.Tests.{eq-eqb, ne-eqb}
-use Rattle.image.specs.Bytes.{byteAt}
-use Rattle.image.specs.Dsk.{rowAt}
-use Rattle.image.specs.declared.id.SectorId.{SectorId}
-use Rattle.image.proofs.Tracks.{down}
+use Rattle.fields.specs.Bytes.{byteAt}
+use Rattle.tracks.specs.Block.{rowAt}
+use Rattle.fields.specs.declared.id.SectorId.{SectorId}
+use Rattle.tracks.proofs.Tracks.{down}
 use Rattle.store.specs.Store.{tableLength, sumAt, countAt, nextAt, trackSum, bytesAt}
 use Rattle.store.specs.Spots.{endAt, trackHere, trackSpot, rowHere, sectorSpot, cylindersAt, turned, Walkable}
 use Rattle.store.specs.declared.find.Spot.the-variants.{Nothing, At}

@@ -5,12 +5,12 @@ use mathlib.Core.Bool.{not}
 use lib.ListN.{length}
 use lib.Dec.{eqb, leb}
 use Rattle.buffer.specs.Over.{over}
-use Rattle.image.specs.Refusals.{Result, refused, good, need, after}
-use Rattle.image.specs.Model.{Sector, Disk, sectorCount, byteCount}
+use Rattle.fields.specs.Refusals.{Result, refused, good, need, after}
+use Rattle.fields.specs.Model.{Sector, Disk, sectorCount, byteCount}
 use Rattle.image.specs.Dsk.{Dsk, dskOf}
-use Rattle.image.specs.declared.id.SectorId.{SectorId}
-use Rattle.image.specs.declared.refusal.Refusal.{Refusal}
-use Rattle.image.specs.declared.refusal.Refusal.the-variants.{BadStore, TooManyTracks, TooManySectors, NoRoom}
+use Rattle.fields.specs.declared.id.SectorId.{SectorId}
+use Rattle.fields.specs.declared.refusal.Refusal.{Refusal}
+use Rattle.fields.specs.declared.refusal.Refusal.the-variants.{BadStore, TooManyTracks, TooManySectors, NoRoom}
 use Rattle.store.specs.Find.{Found, nothing, found}
 use Rattle.store.specs.Search.{sectorAt, sectorByIndex, greatest, isSide0}
 use Rattle.store.specs.Store.{tableLength, roomOf, tableOf, dataOf}

@@ -2,7 +2,7 @@
 use Prim.Native.Nat.{ℕ, zero, suc, _+_}
 use mathlib.Core.List.{List, [], _∷_}
 use lib.ListN.{replicate}
-use Rattle.image.specs.Model.{sizeOf, Sector, Track, Disk}
+use Rattle.fields.specs.Model.{sizeOf, Sector, Track, Disk}
 
 -- a formatted sector: its ID, no status bits, and filler as long as n says
 abbrev pub blank : ℕ → ℕ → ℕ → ℕ → ℕ → Sector

@@ -4,8 +4,8 @@ use mathlib.Core.List.{List, [], _∷_}
 use mathlib.Core.Bool.{Bool, cond, not, _&&_}
 use lib.ListN.{length}
 use lib.Dec.{eqb}
-use Rattle.image.specs.declared.id.SectorId.{SectorId}
-use Rattle.image.specs.Model.{Sector, Track, Disk}
+use Rattle.fields.specs.declared.id.SectorId.{SectorId}
+use Rattle.fields.specs.Model.{Sector, Track, Disk}
 use Rattle.store.specs.Find.{Found, nothing, found, find, nth}
 
 -- a track by cylinder and side

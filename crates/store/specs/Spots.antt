@@ -1,16 +1,16 @@
--- What the private calls and those that are lent to crate `disk` answer, by place. A reader of the promises need not read this page.
+-- What the private calls and those that are lent to the crates above answer, by place. A reader of the promises need not read this page.
 use Prim.Native.Nat.{ℕ, zero, suc, _+_, _*_, _%_, _≤_, max}
 use mathlib.Core.List.{List}
 use mathlib.Core.Bool.{Bool, _&&_, cond}
 use mathlib.Core.Path.{_≡_}
 use lib.ListN.{length, drop}
 use lib.Dec.{eqb}
-use Rattle.image.specs.Refusals.{Result, refused, good}
-use Rattle.image.specs.Bytes.{byteAt}
-use Rattle.image.specs.Model.{Sector, Disk}
-use Rattle.image.specs.Dsk.{rowAt, sectorOf}
-use Rattle.image.specs.declared.id.SectorId.{SectorId}
-use Rattle.image.specs.declared.refusal.Refusal.{Refusal}
+use Rattle.fields.specs.Refusals.{Result, refused, good}
+use Rattle.fields.specs.Bytes.{byteAt}
+use Rattle.fields.specs.Model.{Sector, Disk}
+use Rattle.tracks.specs.Block.{rowAt, sectorOf}
+use Rattle.fields.specs.declared.id.SectorId.{SectorId}
+use Rattle.fields.specs.declared.refusal.Refusal.{Refusal}
 use Rattle.store.specs.Find.{Found, nothing, found}
 use Rattle.store.specs.Search.{sectorAt}
 use Rattle.store.specs.Store.{tableLength, roomOf, countAt, nextAt, trackSum, countsAt, bytesAt, wellLaid, diskOf}

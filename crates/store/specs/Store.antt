@@ -8,11 +8,11 @@ use mathlib.Core.List.{List, [], _∷_, _++_}
 use mathlib.Core.Bool.{Bool, _&&_}
 use lib.ListN.{length, drop}
 use lib.Dec.{eqb, leb}
-use Rattle.image.specs.Refusals.{Result, good, need}
-use Rattle.image.specs.Bytes.{byteAt}
-use Rattle.image.specs.Model.{Sector, Track, Disk, sectorCount, byteCount}
-use Rattle.image.specs.Dsk.{rowAt, sectorOf}
-use Rattle.image.specs.declared.refusal.Refusal.the-variants.{BadStore}
+use Rattle.fields.specs.Refusals.{Result, good, need}
+use Rattle.fields.specs.Bytes.{byteAt}
+use Rattle.fields.specs.Model.{Sector, Track, Disk, sectorCount, byteCount}
+use Rattle.tracks.specs.Block.{rowAt, sectorOf}
+use Rattle.fields.specs.declared.refusal.Refusal.the-variants.{BadStore}
 
 -- ---- Capacities
 

@@ -1,6 +1,6 @@
 // What the public calls answer.
-use image::Refusal;
-use image::SectorId;
+use fields::Refusal;
+use fields::SectorId;
 
 pub enum Has {
     Yes,

@@ -55,7 +55,7 @@ pub fn rows_len(table: &[u8], start: usize, count: usize) -> usize
     let mut at = start;
     let mut left = count;
     while 0 < left {
-        let row = image::row_at(table, at);
+        let row = tracks::row_at(table, at);
         sum += row.stored as usize;
         at += 8;
         left -= 1;
@@ -70,7 +70,7 @@ pub fn survey(table: &[u8], room: usize) -> Totals
     if table.len() != TABLE {
         return Totals::Bad;
     }
-    let tracks = image::byte(table, 0);
+    let tracks = fields::byte(table, 0);
     if TRACKS < tracks {
         return Totals::Bad;
     }
@@ -79,7 +79,7 @@ pub fn survey(table: &[u8], room: usize) -> Totals
     let mut sectors: usize = 0;
     let mut bytes: usize = 0;
     while 0 < left {
-        let count = image::byte(table, at + 5);
+        let count = fields::byte(table, at + 5);
         if SECTORS < sectors + count {
             return Totals::Bad;
         }

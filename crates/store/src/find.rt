@@ -5,11 +5,11 @@ use crate::check::Totals;
 use crate::check::room_of;
 use crate::check::rows_len;
 use crate::check::survey;
-use image::Refusal;
-use image::SectorId;
+use fields::Refusal;
+use fields::SectorId;
 ghost use mathlib.Core.Path.{_≡_};
 ghost use Prim.Native.Nat.{_+_, _*_, _<_, _≤_, max};
-ghost use Rattle.image.specs.Bytes.{byteAt};
+ghost use Rattle.fields.specs.Bytes.{byteAt};
 ghost use Rattle.store.specs.Store.{sumAt, diskOf};
 ghost use Rattle.store.specs.Calls.{geometryOf, idOf};
 ghost use Rattle.store.specs.Spots.{cylindersAt, indexSpot, trackHere, rowHere, trackSpot, sectorSpot, storeSpot, Walkable, Located};
@@ -47,10 +47,10 @@ fn track_here(table: &[u8], at: usize, side: u8, cylinder: u8) -> bool
     requires { ⌜ at < 65536 ⌝ }
     ensures { λ r. ⌜ r ≡ trackHere (now (table .entry)) side cylinder at ⌝ }
 {
-    if image::byte(table, at) != cylinder as usize {
+    if fields::byte(table, at) != cylinder as usize {
         return false;
     }
-    image::byte(table, at + 1) == side as usize
+    fields::byte(table, at + 1) == side as usize
 }
 
 // Whether the row at a place has the ID that is looked for.
@@ -58,16 +58,16 @@ pub fn row_here(table: &[u8], at: usize, id: SectorId) -> bool
     requires { ⌜ at < 65536 ⌝ }
     ensures { λ r. ⌜ r ≡ rowHere (now (table .entry)) id at ⌝ }
 {
-    if image::byte(table, at) != id.c as usize {
+    if fields::byte(table, at) != id.c as usize {
         return false;
     }
-    if image::byte(table, at + 1) != id.h as usize {
+    if fields::byte(table, at + 1) != id.h as usize {
         return false;
     }
-    if image::byte(table, at + 2) != id.r as usize {
+    if fields::byte(table, at + 2) != id.r as usize {
         return false;
     }
-    image::byte(table, at + 3) == id.n as usize
+    fields::byte(table, at + 3) == id.n as usize
 }
 
 // The first track with this side and cylinder.
@@ -75,7 +75,7 @@ pub fn get_track(table: &[u8], side: u8, cylinder: u8) -> Spot
     requires { ⌜ Walkable (now table) ⌝ }
     ensures { λ r. ⌜ r ≡ trackSpot (now (table .entry)) side cylinder 0 1 0 (byteAt (now (table .entry)) 0) ⌝ }
 {
-    let mut left = image::byte(table, 0);
+    let mut left = fields::byte(table, 0);
     let mut index: usize = 0;
     let mut at: usize = 1;
     let mut place: usize = 0;
@@ -83,7 +83,7 @@ pub fn get_track(table: &[u8], side: u8, cylinder: u8) -> Spot
         if track_here(table, at, side, cylinder) {
             return Spot::At { index, at, place };
         }
-        let count = image::byte(table, at + 5);
+        let count = fields::byte(table, at + 5);
         place += rows_len(table, at + 6, count);
         at += 6 + 8 * count;
         index += 1;
@@ -105,7 +105,7 @@ pub fn get_sector(table: &[u8], start: usize, first: usize, count: usize, id: Se
         if row_here(table, at, id) {
             return Spot::At { index, at, place };
         }
-        let row = image::row_at(table, at);
+        let row = tracks::row_at(table, at);
         place += row.stored as usize;
         at += 8;
         index += 1;
@@ -119,7 +119,7 @@ pub fn get_sector_by_idx(table: &[u8], at: usize, idx: usize) -> Turned
     requires { ⌜ at < 65536 ⌝ }
     ensures { λ r. ⌜ r ≡ indexSpot (now (table .entry)) at idx ⌝ }
 {
-    let count = image::byte(table, at + 5);
+    let count = fields::byte(table, at + 5);
     if count == 0 {
         return Turned::Empty;
     }
@@ -135,18 +135,18 @@ fn cylinders(table: &[u8]) -> Geometry
     requires { ⌜ Walkable (now table) ⌝ }
     ensures { λ r. ⌜ r ≡ cylindersAt (now (table .entry)) 0 0 1 (byteAt (now (table .entry)) 0) ⌝ }
 {
-    let mut left = image::byte(table, 0);
+    let mut left = fields::byte(table, 0);
     let mut at: usize = 1;
     let mut c0: usize = 0;
     let mut c1: usize = 0;
     while 0 < left {
-        let cylinder = image::byte(table, at);
-        if image::byte(table, at + 1) == 0 {
+        let cylinder = fields::byte(table, at);
+        if fields::byte(table, at + 1) == 0 {
             c0 = greater(c0, cylinder);
         } else {
             c1 = greater(c1, cylinder);
         }
-        at += 6 + 8 * image::byte(table, at + 5);
+        at += 6 + 8 * fields::byte(table, at + 5);
         left -= 1;
     }
     Geometry::Of(c0 as u8, c1 as u8)
@@ -184,7 +184,7 @@ pub fn find_sector(table: &[u8], side: u8, cylinder: u8, id: SectorId) -> Spot
             at,
             place,
         } => {
-            let count = image::byte(table, at + 5);
+            let count = fields::byte(table, at + 5);
             get_sector(table, at + 6, place, count, id)
         }
     }
@@ -203,7 +203,7 @@ pub fn locate(table: &[u8], bytes: &[u8], side: u8, cylinder: u8, id: SectorId) 
         } => match find_sector(table, side, cylinder, id) {
             Spot::Nothing => Place::Nothing,
             Spot::At { index, at, place } => {
-                let row = image::row_at(table, at);
+                let row = tracks::row_at(table, at);
                 let to = place + (row.stored as usize);
                 Place::Part {
                     index,
@@ -235,7 +235,7 @@ pub fn id_by_idx(table: &[u8], bytes: &[u8], side: u8, cylinder: u8, idx: u16) -
             } => match get_sector_by_idx(table, track, idx as usize) {
                 Turned::Empty => IdFound::Missing,
                 Turned::Row { index: _, at } => {
-                    let row = image::row_at(table, at);
+                    let row = tracks::row_at(table, at);
                     let id = row.id;
                     IdFound::Of(id)
                 }

@@ -1,24 +1,23 @@
-// A disk kept in a lent table and a lent data buffer: the layout, the check, the searches, load and fresh format.
+// A disk kept in a lent table and a lent data buffer: the layout, the check and the searches.
 // docs/STORE.md and `specs/Store.antt` say how it is laid.
 mod answer;
 mod check;
 mod find;
-mod lay;
 
 pub use answer::Done;
 pub use answer::Geometry;
 pub use answer::Has;
 pub use answer::IdFound;
+use fields::SectorId;
 pub use find::geometry;
 pub use find::id_by_idx;
-use image::SectorId;
-pub use lay::new;
-pub use lay::new_formatted;
 ghost use mathlib.Core.Path.{_≡_};
 ghost use Rattle.store.specs.Store.{diskOf};
 ghost use Rattle.store.specs.Calls.{lookupOf, hasOf};
 
 // The names of this block are for the crates above only, and may have a `requires`.
+pub use check::ROOM;
+pub use check::TABLE;
 pub use check::Totals;
 pub use check::room_of;
 pub use check::rows_len;
@@ -32,8 +31,6 @@ pub use find::get_track;
 pub use find::greater;
 pub use find::locate;
 pub use find::row_here;
-pub use lay::capacity;
-pub use lay::lay_formatted;
 
 // The bytes of the sector at an address, as a part of `bytes`; an empty part where there is none or the store breaks the layout.
 pub fn lookup<'t, 'b>(

@@ -2,7 +2,7 @@
 // store then holds and answers, in the form in which the Rust's own answers stand in `stdout`.
 // docs/ORACLE.md has both forms. The store is not cleared between two images.
 ghost use Prim.Native.Nat.{_+_, _*_, _<_, _≤_};
-use image::SectorId;
+use fields::SectorId;
 use libc::STDERR_FILENO;
 
 // More records than any list has.
@@ -42,12 +42,12 @@ fn ask_sectors(table: &[u8], bytes: &[u8], start: usize, count: usize, side: u8,
 {
     let mut k: usize = 0;
     while k < count {
-        let row = image::row_at(table, start + 8 * k);
+        let row = tracks::row_at(table, start + 8 * k);
         ask(table, bytes, side, cylinder, row.id);
         k += 1;
     }
     if 0 < count {
-        let row = image::row_at(table, start);
+        let row = tracks::row_at(table, start);
         let id = row.id;
         let r = ((id.r as usize) + 128) % 256;
         let other = SectorId {
@@ -61,15 +61,15 @@ fn ask_sectors(table: &[u8], bytes: &[u8], start: usize, count: usize, side: u8,
 }
 
 fn ask_tracks(table: &[u8], bytes: &[u8]) {
-    let mut left = image::byte(table, 0);
+    let mut left = fields::byte(table, 0);
     let mut at: usize = 1;
     while 0 < left {
         if ROWS_END <= at {
             return;
         }
-        let cylinder = image::byte(table, at);
-        let side = image::byte(table, at + 1);
-        let count = image::byte(table, at + 5);
+        let cylinder = fields::byte(table, at);
+        let side = fields::byte(table, at + 1);
+        let count = fields::byte(table, at + 5);
         ask_sectors(table, bytes, at + 6, count, side as u8, cylinder as u8);
         at += 6 + 8 * count;
         left -= 1;
@@ -114,7 +114,7 @@ fn show(image: &[u8], table: &mut [u8], bytes: &mut [u8]) {
         image::Surveyed::Refused(why) => replay::refused(why),
         image::Surveyed::Good(totals) => {
             replay::show_totals(totals.tracks, totals.sectors, totals.bytes);
-            match store::new(image, table, bytes) {
+            match loading::new(image, table, bytes) {
                 store::Done::Refused(why) => replay::refused(why),
                 store::Done::Good => show_store(table, bytes),
             }
@@ -124,7 +124,7 @@ fn show(image: &[u8], table: &mut [u8], bytes: &mut [u8]) {
 
 fn show_fresh(table: &mut [u8], bytes: &mut [u8]) {
     replay::put(b"fresh\n");
-    match store::new_formatted(table, bytes) {
+    match loading::new_formatted(table, bytes) {
         store::Done::Refused(why) => replay::refused(why),
         store::Done::Good => show_store(table, bytes),
     }

@@ -1,4 +1,4 @@
-use Rattle.host.specs.Words.{geometryWord}
+use Rattle.words.specs.Words.{geometryWord}
 use mathlib.Core.Path.{_≡_, refl, sym, ap, _∙_}
 use borrow.Author.Needs.{needs}
 use Rattle.host.proofs.disk_geometry.Statement.{statement}

@@ -1,4 +1,4 @@
-use Rattle.host.specs.Words.{hasWord}
+use Rattle.words.specs.Words.{hasWord}
 use mathlib.Core.Path.{_≡_, refl, sym, ap, _∙_}
 use borrow.Author.Needs.{needs}
 use Rattle.host.proofs.disk_has_sector.Statement.{statement}

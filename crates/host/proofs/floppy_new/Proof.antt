@@ -1,4 +1,4 @@
-use Rattle.host.proofs.Images.{new-bad, new-good}
+use Rattle.host.proofs.Answers.{new-bad, new-good}
 use mathlib.Core.Path.{_≡_, refl, sym, ap, _∙_}
 use borrow.Author.Needs.{needs}
 use Rattle.host.proofs.floppy_new.Statement.{statement}

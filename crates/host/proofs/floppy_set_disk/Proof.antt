@@ -1,6 +1,6 @@
 use lib.Dec.{eqb}
 use mathlib.Core.Bool.{not}
-use Rattle.host.proofs.Images.{here-long, answered-bad, answered-good}
+use Rattle.host.proofs.Answers.{here-long, answered-bad, answered-good}
 use Rattle.registers.specs.Calls.{diskSet}
 use Rattle.registers.specs.declared.regs.Written.{Written}
 use Rattle.host.specs.Calls.{answered, writtenOn, setDiskOn}

@@ -1,6 +1,6 @@
-use Rattle.host.proofs.Images.{put-long}
-use Rattle.host.proofs.Images.{mid-long}
-use Rattle.host.proofs.Images.{here-long, sent-bad, sent-good}
+use Rattle.host.proofs.Answers.{put-long}
+use Rattle.host.proofs.Answers.{mid-long}
+use Rattle.host.proofs.Answers.{here-long, sent-bad, sent-good}
 use native.Mathlib.Omega.{arith}
 use Prim.Native.Nat.{_-_}
 use mathlib.Core.Path.{_≡_, refl, sym, ap, _∙_}

@@ -1,5 +1,5 @@
 use native.Mathlib.Omega.{arith}
-use Rattle.image.specs.declared.refusal.Refusal.the-variants.{TooManyTracks, TooManySectors}
+use Rattle.fields.specs.declared.refusal.Refusal.the-variants.{TooManyTracks, TooManySectors}
 use Rattle.listing.proofs.Lines.{renamed}
 use Rattle.listing.proofs.Bounds.{totals-few, refusal-few}
 use Rattle.listing.proofs.Listings.{tracks-refused, sectors-refused, opens, listable, listed}

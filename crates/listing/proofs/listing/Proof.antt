@@ -1,6 +1,6 @@
 use mathlib.Core.Path.{refl, sym, _∙_}
 use native.Mathlib.Omega.{arith}
-use Rattle.image.specs.declared.refusal.Refusal.the-variants.{LongInput}
+use Rattle.fields.specs.declared.refusal.Refusal.the-variants.{LongInput}
 use Rattle.listing.proofs.Bounds.{refusal-few}
 use Rattle.listing.proofs.Listings.{told, long-refused, unread-refused}
 use borrow.Author.Needs.{needs}

@@ -6,10 +6,10 @@ use Rattle.ports.proofs.reads.Statement.{statement}
 use Rattle.ports.proofs.reads.Tie as tie
 
 abbrev Inv-loop : tie.InvT-loop
-Inv-loop times lent transfer out₀ f₀ k₀ out f k = length out ≡ length out₀
+Inv-loop dataport times lent transfer out₀ f₀ k₀ out f k = length out ≡ length out₀
 
 abbrev μ-loop : tie.MeasureT-loop
-μ-loop times lent transfer out₀ f₀ k₀ out f k = times - k
+μ-loop dataport times lent transfer out₀ f₀ k₀ out f k = times - k
 
 loop-holds : tie.Need-loop-holds Inv-loop μ-loop
 loop-holds c = search needs

@@ -1,12 +1,15 @@
+use mathlib.Core.Path.{_≡_}
 use Prim.Native.Nat.{_-_, _<_}
 use native.Mathlib.Omega.{arith}
-use lib.ListN.{length}
+use lib.ListN.{length, drop}
 use borrow.Author.Needs.{needs}
+use Rattle.replay.specs.Answers.{checkFrom}
+use Rattle.replay.proofs.Laws.{check-turn, check-done}
 use Rattle.replay.proofs.check_of.Statement.{statement}
 use Rattle.replay.proofs.check_of.Tie as tie
 
 abbrev Inv-loop : tie.InvT-loop
-Inv-loop bytes h₀ i₀ h i = h < 4294967291
+Inv-loop bytes h₀ i₀ h i = (h < 4294967291) × (checkFrom h (drop i bytes) ≡ checkFrom 0 bytes)
 
 abbrev μ-loop : tie.MeasureT-loop
 μ-loop bytes h₀ i₀ h i = length bytes - i
@@ -14,17 +17,14 @@ abbrev μ-loop : tie.MeasureT-loop
 loop-holds : tie.Need-loop-holds Inv-loop μ-loop
 loop-holds c = search needs
 
-shared-slice-read-b : tie.Need-shared-slice-read-b Inv-loop μ-loop
-shared-slice-read-b c = search needs
-
-cast-b : tie.Need-cast-b Inv-loop μ-loop
-cast-b c = omega (arith, c .shared-slice-known .given (c .before .before .loop .i))
+byte-requires : tie.Need-byte-requires Inv-loop μ-loop
+byte-requires c κs = search needs
 
 mul-h : tie.Need-mul-h Inv-loop μ-loop
 mul-h c = search needs
 
 add-h : tie.Need-add-h Inv-loop μ-loop
-add-h c = omega (arith, c .shared-slice-known .given (c .before .before .loop .i))
+add-h c = search needs
 
 add-i : tie.Need-add-i Inv-loop μ-loop
 add-i c = search needs
@@ -33,10 +33,10 @@ loop-less : tie.Need-loop-less Inv-loop μ-loop
 loop-less c = search needs
 
 loop-again : tie.Need-loop-again Inv-loop μ-loop
-loop-again c = omega arith
+loop-again c = (omega arith, search (needs, check-turn))
 
 returns : tie.Need-returns Inv-loop μ-loop
-returns c = search needs
+returns c = search (needs, check-done)
 
 pub check-of-spec : {M : Type 1} → statement M
 check-of-spec =
@@ -45,8 +45,7 @@ check-of-spec =
     Inv-loop
     μ-loop
     loop-holds
-    shared-slice-read-b
-    cast-b
+    byte-requires
     mul-h
     add-h
     add-i

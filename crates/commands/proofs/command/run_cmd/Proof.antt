@@ -3,11 +3,11 @@ use mathlib.Core.Bool.{Bool}
 use Prim.Native.Nat.{_%_}
 use lib.ListN.{getD}
 use lib.Dec.{eqb}
-use Rattle.image.specs.declared.id.SectorId.{SectorId}
+use Rattle.fields.specs.declared.id.SectorId.{SectorId}
 use Rattle.store.specs.Store.{diskOf}
 use Rattle.registers.specs.declared.regs.Written.{Written}
 use Rattle.commands.proofs.Effects.{drive-ready, sensedAs}
-use Rattle.commands.proofs.Sends.{told-kind, ran-quiet, ran-read, ran-stored, quiet-seek, quiet-write, quiet-id, unput-read, still-format}
+use Rattle.commands.proofs.Runs.{told-kind, ran-quiet, ran-read, ran-stored, quiet-seek, quiet-write, quiet-id, unput-read, still-format}
 use Rattle.commands.specs.Commands.{named, writeData, obeyed}
 use Rattle.registers.specs.View.{slotOf}
 use Rattle.registers.specs.Settle.{regsOf, regsAll, regsShifted}

@@ -1,7 +1,7 @@
 use mathlib.Core.Path.{_≡_, ap}
 use native.Mathlib.Omega.{arith}
-use Rattle.image.specs.Dsk.{rowAt}
-use Rattle.image.specs.declared.walk.Row.{Row}
+use Rattle.tracks.specs.Block.{rowAt}
+use Rattle.tracks.specs.declared.track.Row.{Row}
 use Rattle.disk.proofs.Saves.{judged-long, judged-full, judged-good}
 use borrow.Author.Needs.{needs}
 use Rattle.disk.proofs.saving.judge.Statement.{statement}

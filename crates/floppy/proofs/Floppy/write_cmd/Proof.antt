@@ -39,7 +39,7 @@ use denote.Triple.Walked.{says, Stays, stay-ref, stay-dropped, gave-slice, walkO
 use Rattle.store.specs.declared.answer.Done.{Done}
 use Rattle.store.proofs.answer.Done as B
 use Rattle.store.proofs.answer.Done.Laws as B′
-use Rattle.commands.specs.Calls.{dataWrite}
+use Rattle.sending.specs.Calls.{dataWrite}
 use Rattle.floppy.specs.Calls.{wrote, wroteAs}
 use Rattle.floppy.specs.declared.After.{After}
 use Rattle.floppy.specs.declared.Floppy.{Floppy}

@@ -1,3 +1,4 @@
+use Prim.Native.Nat.{_*_}
 use native.Mathlib.Omega.{arith}
 use Rattle.image.specs.Dsk.{entries}
 use Rattle.image.proofs.Headers.{entries-most}
@@ -16,7 +17,7 @@ mul-result c = omega (arith, entries-most _ _ (c .before .byte .ensures .1) (c .
 
 returns : tie.Need-returns
 unfolding entries
-returns c = (cc (c .before .byte .ensures .0, c .byte2 .ensures .0), entries-most _ _ (c .before .byte .ensures .1) (c .byte2 .ensures .1))
+returns c = ((λ i. (c .before .byte .ensures .0) i * (c .byte2 .ensures .0) i), entries-most _ _ (c .before .byte .ensures .1) (c .byte2 .ensures .1))
 
 pub entries-of-spec : {M : Type 1} → statement M
 entries-of-spec = tie.close (tie.spec byte-requires byte-requires-2 mul-result returns)

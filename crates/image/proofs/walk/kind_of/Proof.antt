@@ -1,6 +1,6 @@
-use Rattle.image.specs.Bytes.{stringOf}
+use Rattle.fields.specs.Bytes.{stringOf}
 use Rattle.image.specs.Dsk.{extendedText}
-use Rattle.image.specs.declared.read.Text.the-variants.{Other}
+use Rattle.fields.specs.declared.read.Text.the-variants.{Other}
 use mathlib.Core.Path.{_≡_, sym, _∙_}
 use Rattle.image.proofs.Headers.{kind-short, kind-extended, kind-never, kind-normal, kind-none}
 use borrow.Author.Needs.{needs}

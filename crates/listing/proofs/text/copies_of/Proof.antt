@@ -1,5 +1,5 @@
 use native.Mathlib.Omega.{arith}
-use Rattle.image.proofs.Sizes.{size-pos}
+use Rattle.fields.proofs.Sizes.{size-pos}
 use Rattle.listing.proofs.Digits.{copies-whole, copies-none}
 use borrow.Author.Needs.{needs}
 use Rattle.listing.proofs.text.copies_of.Statement.{statement}

@@ -1,4 +1,4 @@
-use Rattle.image.specs.declared.walk.Kind.the-variants.{Normal, Extended}
+use Rattle.tracks.specs.declared.track.Kind.the-variants.{Normal, Extended}
 use Rattle.listing.proofs.Lines.{kind-room, kind-laid}
 use borrow.Author.Needs.{needs}
 use Rattle.listing.proofs.text.put_kind.Statement.{statement}

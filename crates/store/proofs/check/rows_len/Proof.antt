@@ -1,6 +1,6 @@
 use mathlib.Core.Path.{ap}
 use native.Mathlib.Omega.{arith}
-use Rattle.image.specs.declared.walk.Row.{Row}
+use Rattle.tracks.specs.declared.track.Row.{Row}
 use Rattle.store.proofs.Sums.{Summed, sum-start, sum-again, sum-done}
 use borrow.Author.Needs.{needs}
 use Rattle.store.proofs.check.rows_len.Statement.{statement}

@@ -1,6 +1,6 @@
 use mathlib.Core.Path.{_≡_, refl, sym, _∙_}
 use native.Mathlib.Omega.{arith}
-use Rattle.image.specs.Bytes.{byteAt}
+use Rattle.fields.specs.Bytes.{byteAt}
 use Rattle.store.specs.Spots.{trackSpot}
 use Rattle.store.specs.declared.find.Spot.the-variants.{At}
 use Rattle.store.proofs.Founds.{track-rows, track-row, no-track}

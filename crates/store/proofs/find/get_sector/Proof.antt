@@ -1,6 +1,6 @@
 use mathlib.Core.Path.{sym, ap, _∙_}
 use native.Mathlib.Omega.{arith}
-use Rattle.image.specs.declared.walk.Row.{Row}
+use Rattle.tracks.specs.declared.track.Row.{Row}
 use Rattle.store.proofs.Walks.{RowWalk, row-start, row-inside, row-again, row-found, row-over}
 use borrow.Author.Needs.{needs}
 use Rattle.store.proofs.find.get_sector.Statement.{statement}

@@ -1,7 +1,7 @@
 use mathlib.Core.Path.{_≡_, sym, _∙_}
 use mathlib.Core.Bool.{true}
 use native.Mathlib.Omega.{arith}
-use Rattle.image.specs.Bytes.{byteAt}
+use Rattle.fields.specs.Bytes.{byteAt}
 use Rattle.store.specs.Store.{wellLaid, roomOf}
 use Rattle.store.specs.Spots.{trackSpot}
 use Rattle.store.specs.declared.find.Spot.the-variants.{At}

@@ -1,7 +1,7 @@
 use mathlib.Core.Path.{_≡_, sym, ap, _∙_}
 use mathlib.Core.Bool.{true}
 use native.Mathlib.Omega.{arith}
-use Rattle.image.specs.declared.walk.Row.{Row}
+use Rattle.tracks.specs.declared.track.Row.{Row}
 use Rattle.store.specs.Store.{wellLaid, roomOf}
 use Rattle.store.specs.Spots.{storeSpot}
 use Rattle.store.specs.declared.find.Spot.the-variants.{At}

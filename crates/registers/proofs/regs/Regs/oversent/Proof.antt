@@ -4,8 +4,8 @@ use native.Mathlib.Omega.{arith}
 use lib.ListN.{getD}
 use lib.Dec.{leb}
 use borrow.Author.Tests.{lt-leb}
-use Rattle.registers.specs.Table.{kindOf, bytesFor}
-use Rattle.registers.proofs.Rows.{bytes-range}
+use Rattle.kinds.specs.Table.{kindOf, bytesFor}
+use Rattle.kinds.proofs.Rows.{bytes-range}
 use borrow.Author.Needs.{needs}
 use Rattle.registers.proofs.regs.Regs.oversent.Statement.{statement}
 use Rattle.registers.proofs.regs.Regs.oversent.Tie as tie

@@ -1,0 +1,4 @@
+-- The definitions that a reader must believe, in the order in which they build on each other: the refusals, bytes and numbers by place, a disk.
+pub mod Refusals
+pub mod Bytes
+pub mod Model

@@ -1,0 +1,47 @@
+-- A disk as its user sees it. Nothing here speaks of an image or of a place in a store.
+use Prim.Native.Nat.{ℕ, _+_, _*_, _%_, _^_}
+use mathlib.Core.List.{List, [], _∷_}
+use lib.ListN.{length}
+use Rattle.fields.specs.declared.id.SectorId.{SectorId}
+use Rattle.fields.specs.declared.id.St1.{St1}
+use Rattle.fields.specs.declared.id.St2.{St2}
+
+-- a sector's size by n: 128 shifted left by n & 3
+unfoldable pub sizeOf : ℕ → ℕ
+sizeOf n = 128 * 2 ^ (n % 4)
+
+-- a sector: its ID, its two status bytes and its stored bytes, however many
+pub record Sector : Type 0 where
+  pub id : SectorId
+  pub st1 : St1
+  pub st2 : St2
+  pub content : List ℕ
+
+-- a track: cylinder and side, the size n, gap and filler that it was formatted with, and its sectors
+pub record Track : Type 0 where
+  pub cylinder : ℕ
+  pub side : ℕ
+  pub size : ℕ
+  pub gap : ℕ
+  pub filler : ℕ
+  pub sectors : List Sector
+
+-- a disk: its tracks, in order
+abbrev pub Disk : Type 0
+Disk = List Track
+
+-- a number of each element, summed
+unfoldable pub total : {A : Type 0} → (A → ℕ) → List A → ℕ
+total f [] = 0
+total f (x ∷ xs) = f x + total f xs
+
+-- how many bytes a track stores
+abbrev pub trackBytes : Track → ℕ
+trackBytes t = total (λ s. length (s .content)) (t .sectors)
+
+-- how many sectors and how many bytes a disk has
+abbrev pub sectorCount : Disk → ℕ
+sectorCount d = total (λ t. length (t .sectors)) d
+
+abbrev pub byteCount : Disk → ℕ
+byteCount d = total trackBytes d

@@ -1,0 +1,66 @@
+// A sector's ID and its two status bytes, with the names of their bits.
+ghost use mathlib.Core.Path.{_≡_};
+ghost use Rattle.fields.specs.Model.{sizeOf};
+
+pub struct SectorId {
+    pub c: u8,
+    pub h: u8,
+    pub r: u8,
+    pub n: u8,
+}
+
+impl SectorId {
+    // The size that n names, whatever is stored: 128 shifted left by its two low bits.
+    pub fn len(self) -> usize
+        ensures { λ r. ⌜ r ≡ sizeOf (self .n) ⌝ }
+    {
+        let n = self.n % 4;
+        128usize << n
+    }
+}
+
+// Status register 1. A loaded byte keeps every bit.
+pub struct St1 {
+    pub bits: u8,
+}
+
+impl St1 {
+    pub const MISSING_AM: u8 = 0x01;
+
+    pub const NOT_WRITEABLE: u8 = 0x02;
+
+    pub const NO_DATA: u8 = 0x04;
+
+    pub const UNUSED_0: u8 = 0x08;
+
+    pub const OVERRUN: u8 = 0x10;
+
+    pub const DATA_ERROR: u8 = 0x20;
+
+    pub const UNUSED_1: u8 = 0x40;
+
+    pub const END_OF_CYLINDER: u8 = 0x80;
+}
+
+// Status register 2. A loaded byte keeps every bit.
+pub struct St2 {
+    pub bits: u8,
+}
+
+impl St2 {
+    pub const MISSING_AM_IN_DATA: u8 = 0x01;
+
+    pub const BAD_CYLINDER: u8 = 0x02;
+
+    pub const SCAN_NOT_SATISFIED: u8 = 0x04;
+
+    pub const SCAN_EQUAL_HIT: u8 = 0x08;
+
+    pub const WRONG_CYLINDER: u8 = 0x10;
+
+    pub const DATA_ERROR_IN_DATA: u8 = 0x20;
+
+    pub const CONTROL_MARK: u8 = 0x40;
+
+    pub const UNUSED_0: u8 = 0x80;
+}

@@ -1,0 +1,2 @@
+-- The theorems about the table.
+pub mod Rows

@@ -1,0 +1,2 @@
+-- The definition that a reader must believe: the table of commands.
+pub mod Table

@@ -1,0 +1,90 @@
+use Rattle.layout.specs.Layout.{regsAt}
+use mathlib.Core.Path.{_≡_, refl, sym, ap, _∙_}
+use borrow.Author.Needs.{needs}
+use Rattle.layout.proofs.layout.decode.Statement.{statement}
+use Rattle.layout.proofs.layout.decode.Tie as tie
+use Rattle.layout.proofs.layout.decode.Reads as reads
+use Rattle.layout.proofs.layout.decode.Lts as lts
+use Rattle.layout.proofs.layout.command_at.Reads as command-at-reads
+use Rattle.layout.proofs.layout.drive_at.Reads as drive-at-reads
+use Rattle.layout.proofs.layout.flag_at.Reads as flag-at-reads
+use Rattle.layout.proofs.layout.long_at.Reads as long-at-reads
+use Rattle.layout.proofs.layout.reply_at.Reads as reply-at-reads
+use Rattle.layout.proofs.layout.word_at.Reads as word-at-reads
+use Rattle.layout.proofs.layout.write_at.Reads as write-at-reads
+
+-- src/layout.rt:155:9
+command-at-requires : tie.Need-command-at-requires
+command-at-requires c κs = search needs
+
+-- src/layout.rt:156:9
+reply-at-requires : tie.Need-reply-at-requires
+reply-at-requires c κs = search needs
+
+-- src/layout.rt:157:9
+write-at-requires : tie.Need-write-at-requires
+write-at-requires c κs = search needs
+
+-- src/layout.rt:158:9
+drive-at-requires : tie.Need-drive-at-requires
+drive-at-requires c κs = search needs
+
+-- src/layout.rt:161:16
+shared-slice-read-t7 : tie.Need-shared-slice-read-t7
+shared-slice-read-t7 c = search needs
+
+-- src/layout.rt:163:16
+shared-slice-read-t9 : tie.Need-shared-slice-read-t9
+shared-slice-read-t9 c = search needs
+
+-- src/layout.rt:164:15
+shared-slice-read-t11 : tie.Need-shared-slice-read-t11
+shared-slice-read-t11 c = search needs
+
+-- src/layout.rt:165:15
+long-at-requires : tie.Need-long-at-requires
+long-at-requires c κs = search needs
+
+-- src/layout.rt:166:16
+long-at-requires-2 : tie.Need-long-at-requires-2
+long-at-requires-2 c κs = search needs
+
+-- src/layout.rt:167:15
+shared-slice-read-t15 : tie.Need-shared-slice-read-t15
+shared-slice-read-t15 c = search needs
+
+-- src/layout.rt:168:24
+shared-slice-read-flag-at : tie.Need-shared-slice-read-flag-at
+shared-slice-read-flag-at c = search needs
+
+-- src/layout.rt:168:16
+flag-at-requires : tie.Need-flag-at-requires
+flag-at-requires c κs = search needs
+
+-- src/layout.rt:169:16
+word-at-requires : tie.Need-word-at-requires
+word-at-requires c κs = search needs
+
+-- src/layout.rt:151:1
+returns : tie.Need-returns
+unfolding regsAt
+returns c = simp (c .before .before .before .before .before .before .before .before .before .before .before .before .command-at .ensures, c .before .before .before .before .before .before .before .before .before .before .before .reply-at .ensures, c .before .before .before .before .before .before .before .before .before .before .write-at .ensures, c .before .before .before .before .before .before .before .before .before .drive-at .ensures, c .before .before .before .before .before .long-at .ensures, c .before .before .before .before .long-at2 .ensures, c .before .flag-at .ensures, c .word-at .ensures)
+
+pub decode-spec : {M : Type 1} → statement M
+decode-spec =
+    tie.close
+    (tie.spec
+    command-at-requires
+    reply-at-requires
+    write-at-requires
+    drive-at-requires
+    shared-slice-read-t7
+    shared-slice-read-t9
+    shared-slice-read-t11
+    long-at-requires
+    long-at-requires-2
+    shared-slice-read-t15
+    shared-slice-read-flag-at
+    flag-at-requires
+    word-at-requires
+    returns)

@@ -1,0 +1,130 @@
+-- The controller as bytes: 42 bytes of numbers, then the 1,024 held bytes of a write. docs/HOST.md has the same as a table.
+use Prim.Native.Nat.{ℕ, zero, suc, _+_, _/_, _%_}
+use mathlib.Core.Bool.{Bool, true, false, not, _&&_}
+use mathlib.Core.List.{List, [], _∷_}
+use lib.ListN.{length, drop}
+use lib.Dec.{eqb, leb}
+use Rattle.fields.specs.Bytes.{byteAt, numberAt}
+use Rattle.fields.specs.Refusals.{Result, good, need}
+use Rattle.fields.specs.declared.refusal.Refusal.the-variants.{BadController}
+use Rattle.registers.specs.declared.regs.Regs.{Regs}
+use Rattle.registers.specs.declared.regs.Pending.{Pending}
+use Rattle.registers.specs.declared.regs.Drive.{Drive}
+use Rattle.registers.specs.declared.regs.Seek.{Seek}
+use Rattle.registers.specs.declared.regs.Seek.the-variants.{Idle, Running, Done}
+use Rattle.floppy.specs.declared.Floppy.{Floppy}
+
+-- how many bytes the numbers take, and the whole controller
+abbrev pub numbersLength : ℕ
+numbersLength = 42
+
+abbrev pub controllerLength : ℕ
+controllerLength = 1066
+
+-- ---- Writing
+
+-- a flag is 0 or 1
+abbrev pub flagByte : Bool → ℕ
+flagByte false = 0
+flagByte true = 1
+
+-- a seek state is 0, 1 or 2
+abbrev pub seekByte : Seek → ℕ
+seekByte Idle = 0
+seekByte Running = 1
+seekByte Done = 2
+
+-- a number in so many bytes, low byte first, before what follows it
+abbrev pub numberFor : ℕ → ℕ → List ℕ → List ℕ
+numberFor zero n rest = rest
+numberFor (suc width) n rest = n % 256 ∷ numberFor width (n / 256) rest
+
+-- so many bytes of a list from a place, before what follows them
+abbrev pub bytesFor : ℕ → List ℕ → ℕ → List ℕ → List ℕ
+bytesFor zero x at rest = rest
+bytesFor (suc count) x at rest = byteAt x at ∷ bytesFor count x (at + 1) rest
+
+-- the command, its count and the reply, before what follows them
+abbrev pub commandFor : Regs → List ℕ → List ℕ
+commandFor r rest = bytesFor 9 (r .command) 0 (r .count ∷ bytesFor 7 (r .reply) 0 rest)
+
+-- how far the reply and the data are read, before what follows
+abbrev pub readingFor : Regs → List ℕ → List ℕ
+readingFor r rest = r .place ∷ r .fill ∷ numberFor 4 (r .from) (numberFor 4 (r .until) (r .lost ∷ rest))
+
+-- the motor, the index, a write in progress and the drive, before what follows them
+abbrev pub stateFor : Regs → List ℕ → List ℕ
+stateFor r rest =
+    flagByte (r .motor)
+    ∷ numberFor 2 (r .index) (flagByte (r .write .on)
+    ∷ r .write .c1
+    ∷ r .write .id .c
+    ∷ r .write .id .h
+    ∷ r .write .id .r
+    ∷ r .write .id .n
+    ∷ numberFor 2 (r .write .taken) (r .drive .cylinder
+    ∷ seekByte (r .drive .seek)
+    ∷ flagByte (r .drive .disk)
+    ∷ rest))
+
+-- the numbers, before what follows them
+unfoldable pub numbersFor : Regs → List ℕ → List ℕ
+numbersFor r rest = commandFor r (readingFor r (stateFor r rest))
+
+-- a whole controller
+abbrev pub imageOf : Floppy → List ℕ
+imageOf f = numbersFor (f .regs) (f .held)
+
+-- ---- Reading
+
+abbrev pub flagAt : ℕ → Bool
+flagAt b = not (eqb b 0)
+
+abbrev pub seekIf : Bool → Bool → Seek
+seekIf true done = Running
+seekIf false true = Done
+seekIf false false = Idle
+
+abbrev pub seekAt : ℕ → Seek
+seekAt b = seekIf (eqb b 1) (eqb b 2)
+
+abbrev pub writeAt : List ℕ → Pending
+writeAt l = record {
+  on = flagAt (byteAt l 31);
+  c1 = byteAt l 32;
+  id = record { c = byteAt l 33; h = byteAt l 34; r = byteAt l 35; n = byteAt l 36 };
+  taken = numberAt 2 l 37;
+}
+
+abbrev pub driveAt : List ℕ → Drive
+driveAt l = record { cylinder = byteAt l 39; seek = seekAt (byteAt l 40); disk = flagAt (byteAt l 41) }
+
+unfoldable pub regsAt : List ℕ → Regs
+regsAt l = record {
+  command = bytesFor 9 l 0 [];
+  count = byteAt l 9;
+  reply = bytesFor 7 l 10 [];
+  place = byteAt l 17;
+  fill = byteAt l 18;
+  from = numberAt 4 l 19;
+  until = numberAt 4 l 23;
+  lost = byteAt l 27;
+  motor = flagAt (byteAt l 28);
+  index = numberAt 2 l 29;
+  write = writeAt l;
+  drive = driveAt l;
+}
+
+-- the held bytes
+abbrev pub heldAt : List ℕ → List ℕ
+heldAt l = drop numbersLength l
+
+-- bytes that a controller has: so many, flags up to 1, a seek state up to 2
+unfoldable pub formed : List ℕ → Bool
+formed l =
+    eqb (length l) controllerLength
+    && (leb (byteAt l 28) 1 && (leb (byteAt l 31) 1 && (leb (byteAt l 40) 2 && leb (byteAt l 41) 1)))
+
+-- the registers that are in these bytes; 1 where no controller has them
+unfoldable pub regsIn : List ℕ → Result Regs
+regsIn l = need (formed l) BadController (good (regsAt l))

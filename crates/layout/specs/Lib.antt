@@ -1,0 +1,2 @@
+-- The definition that a reader must believe: which bytes a controller is.
+pub mod Layout

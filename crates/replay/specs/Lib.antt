@@ -1,0 +1,2 @@
+-- The definitions that a reader must believe: what the programs' common functions answer.
+pub mod Answers

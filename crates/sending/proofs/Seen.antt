@@ -1,0 +1,350 @@
+-- Seen as boxes and disk, a byte sent to the controller is the machine's step.
+use mathlib.Core.Path.{_≡_, refl, sym, ap, subst, _∙_}
+use Prim.Native.Nat.{ℕ, _+_, _-_, _≤_, _<_}
+use native.Mathlib.Omega.{arith}
+use native.Mathlib.Numerals.{add-one}
+use mathlib.Core.Bool.{Bool, true, false}
+use mathlib.Core.List.{List, [], _∷_, _++_}
+use mathlib.Core.Option.{Option, none, some}
+use lib.ListN.{length, set, take, drop, replicate, drop-of-length-le}
+use lib.Seq.{slice, length-slice, length-take-le, take-suc-set, take-append-seam}
+use lib.Dec.{eqb, ltb, leb}
+use borrow.Author.Tests.{ltb-true, ltb-false, leb-true}
+use Rattle.buffer.specs.Over.{over}
+use Rattle.fields.specs.Refusals.{Result, refused, good, need, after}
+use Rattle.fields.specs.Model.{sizeOf, Sector, Disk, byteCount}
+use Rattle.fields.specs.declared.id.SectorId.{SectorId}
+use Rattle.fields.specs.declared.refusal.Refusal.the-variants.{BadController, NoRoom}
+use Rattle.fields.proofs.Sizes.{size-most}
+use Rattle.store.specs.Find.{Found, nothing, found}
+use Rattle.store.specs.Search.{sectorAt}
+use Rattle.store.specs.Store.{roomOf, tableOf, dataOf, diskOf}
+use Rattle.store.specs.Fresh.{formatted}
+use Rattle.store.specs.Calls.{fitting}
+use Rattle.store.specs.declared.answer.Done.the-variants as finished
+use Rattle.store.proofs.Rounds.{over-front}
+use Rattle.disk.specs.Change.{saved, setTrack}
+use Rattle.disk.proofs.Accepts.{format-accepted, save-accepted}
+use Rattle.kinds.specs.declared.kind.Kind.{Kind}
+use Rattle.kinds.specs.declared.kind.Kind.the-variants.{Specify, SenseDrive, Recalibrate, SenseInterrupt, SeekTo, Version, ReadData, ReadDeleted, WriteData, ReadId, FormatTrack, Unserved, Invalid}
+use Rattle.registers.specs.declared.regs.Regs.{Regs}
+use Rattle.registers.specs.declared.regs.Pending.{Pending}
+use Rattle.registers.specs.declared.regs.Seek.{Seek}
+use Rattle.registers.specs.declared.regs.Seek.the-variants.{Idle, Running, Done}
+use Rattle.registers.specs.Boxes.{Slot, Holds, Writing, Inside, World, Taking, Add, Hold, Change, Clear, MoveTo, Turn, Start, Finish, Shift, Stay, Reply, ReplyIfNone, Seeking, Interrupt, Serve, Effect, Sent, withCommand, withWrite, withSlot, holding, taken, changed, allChanged, putIn, withReply, ifNone, interrupted, shifted}
+use Rattle.kinds.specs.Table.{kindOf, bytesFor}
+use Rattle.registers.specs.View.{settingOf, slotIf, slotOf, writingIf, insideOf, frontOf, worldOf, impossible, impossibleIn}
+use Rattle.registers.specs.declared.regs.Flag.the-variants as flag
+use Rattle.registers.specs.Calls.{diskIn}
+use Rattle.registers.specs.Settle.{replied, regsTaken, heldTaken, regsChanged, regsAll, ifUnread, interruptedBy, regsShifted, regsOf}
+use Rattle.registers.proofs.Numbers.{possible, possible-in, count-few, taken-few}
+use Rattle.commands.specs.Commands.{byte, idOf, driveOf, headOf, ready, inDrive, named, puts, seekIf, readData, writeData, readId, saveAt, written, formatTrack, obeyed, writeReply, u}
+use Rattle.sending.specs.Machine.{sends, clearing, commandIf, commandByte, dataIf, dataByte, sent, done, writePort}
+use Rattle.commands.specs.Lent.{tableWith, dataWith, transferWith, Left, left, leftOf}
+use Rattle.sending.specs.Calls.{sentTo, dataWrite}
+use Rattle.commands.proofs.Runs.{Unput, quiet-seek, quiet-id, quiet-write, unput-read}
+use Rattle.sending.proofs.Sends.{sent-right, sent-data, sent-command}
+
+-- ---- inside: taking a byte, and changes
+
+-- there is room for a byte that is taken
+abbrev Fits : Taking → Regs → List ℕ → Type 0
+Fits (Add b) r h = r .count < length (r .command)
+Fits (Hold b) r h = r .write .taken < length h
+
+more : (l : List ℕ) (i b : ℕ) → i < length l → take (i + 1) (set l i b) ≡ take i l ++ (b ∷ [])
+more l i b g = rw add-one (take-suc-set l i b g)
+
+more-held : (f : Bool) (p : Pending) (h : List ℕ) (b : ℕ) → p .taken < length h
+    → writingIf f (record { on = f; c1 = p .c1; id = p .id; taken = p .taken + 1 }) (set h (p .taken) b) ≡ holding b (writingIf f p h)
+more-held true p h b g = ap (λ (l : List ℕ). some (record { unit = p .c1; id = p .id; held = l })) (more h (p .taken) b g)
+more-held false p h b g = refl
+
+seen-taken : (x : Taking) (r : Regs) (h : List ℕ) (s : Slot) → Fits x r h → insideOf (regsTaken x r) (heldTaken x r h) s ≡ taken x (insideOf r h s)
+unfolding insideOf taken
+seen-taken (Add b) r h s g = ap (λ (l : List ℕ). withCommand l (insideOf r h s)) (more (r .command) (r .count) b g)
+seen-taken (Hold b) r h s g = ap (λ (w : Option Writing). withWrite w (insideOf r h s)) (more-held (r .write .on) (r .write) h b g)
+
+seen-change : (x : Change) (r : Regs) (h : List ℕ) (s : Slot) → insideOf (regsChanged x r) h s ≡ changed x (insideOf r h s)
+unfolding insideOf changed
+seen-change Clear r h s = refl
+seen-change (MoveTo c) r h s = refl
+seen-change Turn r h s = refl
+seen-change (Start unit id) r h s = refl
+seen-change Finish r h s = refl
+
+seen-changes : (xs : List Change) (r : Regs) (h : List ℕ) (s : Slot) → insideOf (regsAll xs r) h s ≡ allChanged xs (insideOf r h s)
+unfolding regsAll allChanged
+seen-changes [] r h s = refl
+seen-changes (x ∷ xs) r h s = seen-changes xs (regsChanged x r) h s ∙ ap (allChanged xs) (seen-change x r h s)
+
+-- ---- what a byte does inside leaves the front, and the flag of the disk
+
+record Same (r r′ : Regs) : Type 0 where
+  pub front : (x : List ℕ) → frontOf r′ x ≡ frontOf r x
+  pub flag : r′ .drive .disk ≡ r .drive .disk
+  pub few : r .fill ≤ 7 → r′ .fill ≤ 7
+  pub long : length (r .reply) ≡ 7 → length (r′ .reply) ≡ 7
+
+same-taken : (x : Taking) (r : Regs) → Same r (regsTaken x r)
+unfolding frontOf
+same-taken (Add b) r = record { front = λ x. refl; flag = refl; few = λ h. h; long = λ h. h }
+same-taken (Hold b) r = record { front = λ x. refl; flag = refl; few = λ h. h; long = λ h. h }
+
+same-change : (x : Change) (r : Regs) → Same r (regsChanged x r)
+unfolding frontOf
+same-change Clear r = record { front = λ x. refl; flag = refl; few = λ h. h; long = λ h. h }
+same-change (MoveTo c) r = record { front = λ x. refl; flag = refl; few = λ h. h; long = λ h. h }
+same-change Turn r = record { front = λ x. refl; flag = refl; few = λ h. h; long = λ h. h }
+same-change (Start unit id) r = record { front = λ x. refl; flag = refl; few = λ h. h; long = λ h. h }
+same-change Finish r = record { front = λ x. refl; flag = refl; few = λ h. h; long = λ h. h }
+
+same-then : (a b c : Regs) → Same a b → Same b c → Same a c
+same-then a b c p q = record {
+  front = λ x. q .front x ∙ p .front x;
+  flag = q .flag ∙ p .flag;
+  few = λ h. q .few (p .few h);
+  long = λ h. q .long (p .long h);
+}
+
+same-changes : (xs : List Change) (r : Regs) → Same r (regsAll xs r)
+unfolding regsAll
+same-changes [] r = record { front = λ x. refl; flag = refl; few = λ h. h; long = λ h. h }
+same-changes (x ∷ xs) r = same-then r (regsChanged x r) (regsAll xs (regsChanged x r)) (same-change x r) (same-changes xs (regsChanged x r))
+
+-- ---- in front
+
+read-back : (bytes rest : List ℕ) → slice 0 (length bytes) (bytes ++ rest) ≡ bytes
+read-back bytes rest = take-append-seam bytes rest
+
+seen-reply : (bytes : List ℕ) (r : Regs) (x : List ℕ) → frontOf (replied bytes r) x ≡ withReply bytes (frontOf r x)
+unfolding frontOf
+seen-reply bytes r x = ap (λ (l : List ℕ). withReply l (frontOf r x)) (read-back bytes (replicate (7 - length bytes) 0))
+
+seen-interrupt : (c : ℕ) (r : Regs) (x : List ℕ) (s : Seek) → frontOf (interruptedBy c r s) x ≡ interrupted c (frontOf r x) s
+unfolding interruptedBy interrupted
+seen-interrupt c r x Idle = seen-reply (0x80 ∷ c ∷ []) r x
+seen-interrupt c r x Running = unfold frontOf in refl
+seen-interrupt c r x Done = seen-reply (0x80 ∷ c ∷ []) r x
+
+-- a reply that is unread is kept
+if-some : (new l : List ℕ) (f t : ℕ) (k : List ℕ) → l ≡ slice f t k → f < t → t ≤ length k → ifNone new l ≡ l
+if-some new [] f t k e g h = let z : length (slice f t k) ≡ t - f = length-slice f t k h in absurd (omega (arith, ap length e))
+if-some new (x ∷ l) f t k e g h = refl
+
+if-none : (new : List ℕ) (f t : ℕ) (k : List ℕ) → t ≤ f → t ≤ length k → ifNone new (slice f t k) ≡ new
+if-none new f t k g h = ap (ifNone new) (drop-of-length-le (take t k) {i = f} (omega (arith, length-take-le t k h)))
+
+seen-if : (v : Bool) (bytes : List ℕ) (r : Regs) (x : List ℕ) → r .fill ≤ 7 → length (r .reply) ≡ 7 → ltb (r .place) (r .fill) ≡ v
+    → frontOf (ifUnread v bytes r) x ≡ withReply (ifNone bytes (frontOf r x .reply)) (frontOf r x)
+unfolding ifUnread
+seen-if true bytes r x f l e =
+    unfold frontOf in ap (λ (y : List ℕ). withReply y (frontOf r x)) (sym (if-some bytes _ (r .place) (r .fill) (r .reply) refl (ltb-true _ _ e) (omega (arith, f, l))))
+seen-if false bytes r x f l e =
+    seen-reply bytes r x
+    ∙ (unfold frontOf in ap (λ (y : List ℕ). withReply y (frontOf r x)) (sym (if-none bytes (r .place) (r .fill) (r .reply) (ltb-false _ _ e) (omega (arith, f, l)))))
+
+seen-serve : (bytes reply : List ℕ) (r : Regs) (x : List ℕ) → frontOf (regsShifted (Serve bytes reply) r) (over x 0 bytes) ≡ shifted (Serve bytes reply) (frontOf r x)
+unfolding regsShifted shifted frontOf
+seen-serve bytes reply r x =
+    let p : slice 0 (length reply) (reply ++ replicate (7 - length reply) 0) ≡ reply = read-back reply (replicate (7 - length reply) 0) in
+    let q : slice 0 (length bytes) (over x 0 bytes) ≡ bytes = ap (slice 0 (length bytes)) (over-front x bytes) ∙ read-back bytes (drop (length bytes) x) in
+    λ i. record { seek = r .drive .seek; reply = p i; unread = q i; lost = r .lost }
+
+seen-shift : (s : Shift) (r : Regs) (x : List ℕ) → r .fill ≤ 7 → length (r .reply) ≡ 7 → frontOf (regsShifted s r) (transferWith s x) ≡ shifted s (frontOf r x)
+unfolding regsShifted shifted frontOf
+seen-shift Stay r x f l = refl
+seen-shift (Reply bytes) r x f l = seen-reply bytes r x
+seen-shift (ReplyIfNone bytes) r x f l = seen-if (ltb (r .place) (r .fill)) bytes r x f l refl
+seen-shift Seeking r x f l = refl
+seen-shift (Interrupt c) r x f l = seen-interrupt c r x (r .drive .seek)
+seen-shift (Serve bytes reply) r x f l = seen-serve bytes reply r x
+
+-- what is done in front leaves the inside, and the flag of the disk
+shift-inside : (s : Shift) (r : Regs) (h : List ℕ) (slot : Slot) → (insideOf (regsShifted s r) h slot ≡ insideOf r h slot) × (regsShifted s r .drive .disk ≡ r .drive .disk)
+unfolding regsShifted insideOf
+shift-inside Stay r h slot = (refl, refl)
+shift-inside (Reply bytes) r h slot = (refl, refl)
+shift-inside (ReplyIfNone bytes) r h slot = go (ltb (r .place) (r .fill))
+  where
+    go : (v : Bool) → (insideOf (ifUnread v bytes r) h slot ≡ insideOf r h slot) × (ifUnread v bytes r .drive .disk ≡ r .drive .disk)
+    go true = unfold ifUnread in (refl, refl)
+    go false = unfold ifUnread in (refl, refl)
+shift-inside Seeking r h slot = (refl, refl)
+shift-inside (Interrupt c) r h slot = go (r .drive .seek)
+  where
+    go : (s : Seek) → (insideOf (interruptedBy c r s) h slot ≡ insideOf r h slot) × (interruptedBy c r s .drive .disk ≡ r .drive .disk)
+    go Idle = unfold interruptedBy in (refl, refl)
+    go Running = unfold interruptedBy in (refl, refl)
+    go Done = unfold interruptedBy in (refl, refl)
+shift-inside (Serve bytes reply) r h slot = (refl, refl)
+
+-- ---- the disk that is put is the one that the store then holds
+
+module _ (r : Regs) (t d : List ℕ) where
+  abbrev Lays : Option Disk → Type 0
+  Lays none = Unit {0}
+  Lays (some y) = (r .drive .disk ≡ true) × (diskOf (over t 0 (tableOf y)) (over d 0 (dataOf y)) ≡ good y)
+
+  abbrev LaysE : Result Effect → Type 0
+  LaysE (refused why) = Unit {0}
+  LaysE (good e) = Lays (e .put)
+
+  abbrev LaysS : Result Sent → Type 0
+  LaysS (refused why) = Unit {0}
+  LaysS (good s) = Lays (s .effect .put)
+
+  seen-slot : (put : Option Disk) (i : Inside) (f : Bool) → Lays put → f ≡ r .drive .disk → i .slot ≡ slotOf r t d
+      → putIn put i ≡ withSlot (slotIf f (diskOf (tableWith put t) (dataWith put d))) i
+  unfolding putIn
+  seen-slot none i f g e q = λ k. withSlot ((q ∙ ap (λ (v : Bool). slotIf v (diskOf t d)) (sym e)) k) i
+  seen-slot (some y) i f g e q = ap (λ (s : Slot). withSlot s i) (held f (e ∙ g .0) (g .1))
+    where
+      held : (v : Bool) → v ≡ true → diskOf (over t 0 (tableOf y)) (over d 0 (dataOf y)) ≡ good y → Holds (good y) ≡ slotIf v (diskOf (over t 0 (tableOf y)) (over d 0 (dataOf y)))
+      held true z w = ap Holds (sym w)
+      held false z w = let n : _≡_ {A = ℕ} 0 1 = cc in absurd (omega arith)
+
+  unput-lays : (e : Result Effect) → Unput e → LaysE e
+  unput-lays (refused why) q = tt
+  unput-lays (good e) q = subst Lays (sym q) tt
+
+  format-lays : (v f : Bool) (disk : Result Disk) (unit n count gap filler cylinder : ℕ) → r .drive .disk ≡ f → diskOf t d ≡ disk
+      → LaysE (formatTrack (roomOf d) unit n count gap filler cylinder (inDrive v (slotIf f disk)))
+  unfolding formatTrack
+  format-lays false f disk unit n count gap filler cylinder e q = tt
+  format-lays true false disk unit n count gap filler cylinder e q = tt
+  format-lays true true (refused why) unit n count gap filler cylinder e q = tt
+  format-lays true true (good y) unit n count gap filler cylinder e q = go (fitting (roomOf d) (setTrack (headOf unit) cylinder (formatted cylinder (headOf unit) n count gap filler) y)) refl
+    where
+      go : (new : Result Disk) → fitting (roomOf d) (setTrack (headOf unit) cylinder (formatted cylinder (headOf unit) n count gap filler) y) ≡ new
+          → LaysE (after new (λ z. puts [] z (u unit ∷ 0 ∷ 0 ∷ 0 ∷ 0 ∷ 0 ∷ n ∷ [])))
+      go (refused why) w = tt
+      go (good z) w = (e, format-accepted t d y q (setTrack (headOf unit) cylinder (formatted cylinder (headOf unit) n count gap filler) y) z w)
+
+  save-lays : (v : Bool) (y : Disk) (unit : ℕ) (id : SectorId) (new : List ℕ) (cylinder : ℕ) → r .drive .disk ≡ true → diskOf t d ≡ good y
+      → leb (byteCount (saved (headOf unit) cylinder id new y)) (roomOf d) ≡ v
+      → LaysE (need v NoRoom (puts (Finish ∷ []) (saved (headOf unit) cylinder id new y) (writeReply unit id)))
+  save-lays true y unit id new cylinder e q w = (e, save-accepted t d y q (headOf unit) cylinder id new (leb-true _ _ w))
+  save-lays false y unit id new cylinder e q w = tt
+
+  written-lays : (f : Bool) (disk : Result Disk) (unit : ℕ) (id : SectorId) (new : List ℕ) (cylinder : ℕ) → r .drive .disk ≡ f → diskOf t d ≡ disk
+      → LaysE (written (roomOf d) unit id new cylinder (slotIf f disk))
+  unfolding written
+  written-lays false disk unit id new cylinder e q = tt
+  written-lays true (refused why) unit id new cylinder e q = tt
+  written-lays true (good y) unit id new cylinder e q = go (sectorAt y (headOf unit) cylinder id)
+    where
+      go : (s : Found Sector) → LaysE (saveAt (roomOf d) unit id (saved (headOf unit) cylinder id new y) s)
+      go nothing = unfold saveAt in tt
+      go (found k s) = unfold saveAt in save-lays _ y unit id new cylinder e q refl
+
+  obeyed-lays : (x : List ℕ) (k : Kind) (l : List ℕ) (cylinder index : ℕ) → LaysE (obeyed (settingOf d x) k l cylinder index (slotOf r t d))
+  unfolding obeyed
+  obeyed-lays x Specify l c i = tt
+  obeyed-lays x SenseDrive l c i = tt
+  obeyed-lays x Recalibrate l c i = unput-lays (seekIf (eqb (driveOf (byte l 1)) 0) 0) (quiet-seek (eqb (driveOf (byte l 1)) 0) 0 .0)
+  obeyed-lays x SenseInterrupt l c i = tt
+  obeyed-lays x SeekTo l c i = unput-lays (seekIf (eqb (driveOf (byte l 1)) 0) (byte l 2)) (quiet-seek (eqb (driveOf (byte l 1)) 0) (byte l 2) .0)
+  obeyed-lays x Version l c i = tt
+  obeyed-lays x ReadData l c i = unput-lays (readData (settingOf d x .transfer) false l c (named (byte l 1) (slotOf r t d))) (unput-read (settingOf d x .transfer) false l c (named (byte l 1) (slotOf r t d)))
+  obeyed-lays x ReadDeleted l c i = unput-lays (readData (settingOf d x .transfer) true l c (named (byte l 1) (slotOf r t d))) (unput-read (settingOf d x .transfer) true l c (named (byte l 1) (slotOf r t d)))
+  obeyed-lays x WriteData l c i = unput-lays (writeData (byte l 1) (idOf l) c (named (byte l 1) (slotOf r t d))) (quiet-write (byte l 1) (idOf l) c (named (byte l 1) (slotOf r t d)) .0)
+  obeyed-lays x ReadId l c i = unput-lays (readId (byte l 1) c i (named (byte l 1) (slotOf r t d))) (quiet-id (byte l 1) c i (named (byte l 1) (slotOf r t d)) .0)
+  obeyed-lays x FormatTrack l c i = format-lays (eqb (driveOf (byte l 1)) 0) (r .drive .disk) (diskOf t d) (byte l 1) (byte l 2) (byte l 3) (byte l 4) (byte l 5) c refl refl
+  obeyed-lays x Unserved l c i = tt
+  obeyed-lays x Invalid l c i = tt
+
+  clearing-lays : (e : Result Effect) → LaysE e → LaysE (clearing e)
+  clearing-lays (refused why) q = tt
+  clearing-lays (good e) q = q
+
+  sends-lays : (x : Taking) (e : Result Effect) → LaysE e → LaysS (sends x e)
+  sends-lays x (refused why) q = tt
+  sends-lays x (good e) q = q
+
+  command-lays : (v : Bool) (x : List ℕ) (k : Kind) (l : List ℕ) (cylinder index : ℕ) → LaysE (commandIf v (settingOf d x) k l cylinder index (slotOf r t d))
+  unfolding commandIf
+  command-lays true x k l c i = clearing-lays (obeyed (settingOf d x) k l c i (slotOf r t d)) (obeyed-lays x k l c i)
+  command-lays false x k l c i = tt
+
+  data-lays : (v : Bool) (x : List ℕ) (unit : ℕ) (id : SectorId) (l : List ℕ) (cylinder : ℕ) → LaysE (dataIf v (settingOf d x) unit id l cylinder (slotOf r t d))
+  unfolding dataIf
+  data-lays true x unit id l c = written-lays (r .drive .disk) (diskOf t d) unit id l c refl refl
+  data-lays false x unit id l c = tt
+
+-- ---- a whole byte
+
+-- how a byte is taken
+abbrev Takes : Taking → Result Sent → Type 0
+Takes k (refused why) = Unit {0}
+Takes k (good s) = s .taking ≡ k
+
+sends-takes : (k : Taking) (e : Result Effect) → Takes k (sends k e)
+sends-takes k (refused why) = tt
+sends-takes k (good e) = refl
+
+module _ (r : Regs) (b : ℕ) (h t d x : List ℕ) (ok : impossibleIn x r ≡ false) (nine : length (r .command) ≡ 9) (seven : length (r .reply) ≡ 7) (held : length h ≡ 1024) where
+  -- what a byte leaves, seen: a refusal, with every byte as it came; or the boxes then
+  abbrev pub Sees : Left → Result World → Type 0
+  Sees y (refused why) = y ≡ left (record { done = finished.Refused why; regs = r }) h t d x
+  Sees (left a h′ t′ d′ x′) (good w) = (a .done ≡ finished.Good) × (worldOf (a .regs) h′ t′ d′ x′ ≡ w)
+
+  seen-byte : (e : Result Sent) (k : Taking) → Fits k r h → Takes k e → LaysS r t d e → Sees (leftOf e r h t d x) (after e (λ s. good (done (worldOf r h t d x) s)))
+  unfolding leftOf regsOf done insideOf
+  seen-byte (refused why) k g q l = refl
+  seen-byte (good s) k g q l =
+      let tk : Taking = s .taking in
+      let xs : List Change = s .effect .changes in
+      let sh : Shift = s .effect .shift in
+      let r₁ : Regs = regsTaken tk r in
+      let r₂ : Regs = regsAll xs r₁ in
+      let h′ : List ℕ = heldTaken tk r h in
+      let same = same-then r r₁ r₂ (same-taken tk r) (same-changes xs r₁) in
+      let fit : Fits tk r h = subst (λ (z : Taking). Fits z r h) (sym q) g in
+      let slot′ = slotOf (regsShifted sh r₂) (tableWith (s .effect .put) t) (dataWith (s .effect .put) d) in
+      let i : insideOf r₂ h′ (slotOf r t d) ≡ allChanged xs (taken tk (insideOf r h (slotOf r t d)))
+      = seen-changes xs r₁ h′ (slotOf r t d) ∙ ap (allChanged xs) (seen-taken tk r h (slotOf r t d) fit) in
+      let j : insideOf (regsShifted sh r₂) h′ slot′ ≡ insideOf r₂ h′ slot′ = shift-inside sh r₂ h′ slot′ .0 in
+      let m : putIn (s .effect .put) (insideOf r₂ h′ (slotOf r t d)) ≡ insideOf r₂ h′ slot′
+      = seen-slot r t d (s .effect .put) (insideOf r₂ h′ (slotOf r t d)) (regsShifted sh r₂ .drive .disk) l (shift-inside sh r₂ h′ slot′ .1 ∙ same .flag) refl in
+      let f : frontOf (regsShifted sh r₂) (transferWith sh x) ≡ shifted sh (frontOf r x)
+      = seen-shift sh r₂ x (same .few (possible r (possible-in x r ok) .fill-in)) (same .long seven) ∙ ap (shifted sh) (same .front x) in
+      (refl, λ n. record { inside = (j ∙ sym m ∙ ap (putIn (s .effect .put)) i) n; front = f n })
+
+  seen-sent : (f : Bool) → r .write .on ≡ f → Sees (leftOf (sent (settingOf d x) (insideOf r h (slotOf r t d)) b) r h t d x) (writePort (settingOf d x) (worldOf r h t d x) b)
+  unfolding writePort dataByte commandByte
+  seen-sent true e =
+      let g : r .write .taken < length h = omega (arith, taken-few (r .write) (possible r (possible-in x r ok) .write-in) e, size-most (r .write .id .n)) in
+      let l : List ℕ = take (r .write .taken) h ++ (b ∷ []) in
+      let y : Result Effect = dataIf (eqb (length l) (sizeOf (r .write .id .n))) (settingOf d x) (r .write .c1) (r .write .id) l (r .drive .cylinder) (slotOf r t d) in
+      subst (λ (z : Result Sent). Sees (leftOf z r h t d x) (after z (λ s. good (done (worldOf r h t d x) s)))) (sent-data r b h t d x e)
+      (seen-byte (sends (Hold b) y) (Hold b) g (sends-takes (Hold b) y)
+      (sends-lays r t d (Hold b) y (data-lays r t d (eqb (length l) (sizeOf (r .write .id .n))) x (r .write .c1) (r .write .id) l (r .drive .cylinder))))
+  seen-sent false e =
+      let g : r .count < length (r .command) = omega (arith, count-few r (possible-in x r ok)) in
+      let l : List ℕ = take (r .count) (r .command) ++ (b ∷ []) in
+      let k : Kind = kindOf (byte l 0) in
+      let y : Result Effect = commandIf (eqb (length l) (bytesFor k)) (settingOf d x) k l (r .drive .cylinder) (r .index) (slotOf r t d) in
+      subst (λ (z : Result Sent). Sees (leftOf z r h t d x) (after z (λ s. good (done (worldOf r h t d x) s)))) (sent-command r b h t d x e)
+      (seen-byte (sends (Add b) y) (Add b) g (sends-takes (Add b) y)
+      (sends-lays r t d (Add b) y (command-lays r t d (eqb (length l) (bytesFor k)) x k l (r .drive .cylinder) (r .index))))
+
+  -- a byte sent leaves what the machine's step says of the boxes seen
+  pub write-seen : Sees (dataWrite r b h t d x) (writePort (settingOf d x) (worldOf r h t d x) b)
+  unfolding dataWrite
+  write-seen =
+      subst (λ (z : Result Sent). Sees (leftOf z r h t d x) (writePort (settingOf d x) (worldOf r h t d x) b)) (sent-right r b h t d x ok) (seen-sent (r .write .on) refl)
+
+-- numbers that no controller has are refusal 1, and change nothing
+pub write-refused : (r : Regs) (b : ℕ) (h t d x : List ℕ) → impossibleIn x r ≡ true → dataWrite r b h t d x ≡ left (record { done = finished.Refused BadController; regs = r }) h t d x
+unfolding dataWrite sentTo leftOf
+write-refused r b h t d x e = rw e
+
+-- whether a disk is in, seen: whether there is one in the drive
+pub disk-told : (r : Regs) (h t d x : List ℕ) → impossible r ≡ false → diskIn r ≡ flag.Of (ready (worldOf r h t d x .inside .slot))
+unfolding diskIn insideOf
+disk-told r h t d x ok = rw ok (ap flag.Of (is-in (r .drive .disk) (diskOf t d)))
+  where
+    is-in : (f : Bool) (disk : Result Disk) → f ≡ ready (slotIf f disk)
+    is-in true disk = refl
+    is-in false disk = refl

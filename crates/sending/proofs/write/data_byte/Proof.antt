@@ -1,0 +1,120 @@
+use mathlib.Core.Path.{_≡_, refl, sym, ap, _∙_}
+use Prim.Native.Nat.{_<_}
+use native.Mathlib.Omega.{arith}
+use lib.ListN.{length}
+use Rattle.store.specs.declared.answer.Done.the-variants.{Good}
+use Rattle.registers.specs.declared.regs.Written.{Written}
+use Rattle.registers.specs.declared.regs.Regs.{Regs}
+use Rattle.fields.proofs.Sizes.{size-most}
+use Rattle.sending.proofs.Sends.{set-room, set-count, set-few, set-in, data-part, data-good, data-refused}
+use borrow.Author.Needs.{needs}
+use Rattle.sending.proofs.write.data_byte.Statement.{statement}
+use Rattle.sending.proofs.write.data_byte.Tie as tie
+
+-- the place is inside what is held
+room : (s : tie.Start) → s .args .regs .write .taken < length (s .args .held .now)
+room s = omega (arith, size-most (s .args .regs .write .id .n), s .pre .0, s .pre .1)
+
+small : (s : tie.Start) → s .args .regs .write .taken < 1024
+small s = omega (arith, size-most (s .args .regs .write .id .n), s .pre .1)
+
+cast-at : tie.Need-cast-at
+cast-at c = search needs
+
+slice-read-was : tie.Need-slice-read-was
+slice-read-was c = room (c .before .before .before .before .before .before .before)
+
+slice-write-held : tie.Need-slice-write-held
+slice-write-held c = room (c .before .before .before .before .before .before .before)
+
+holds-requires : tie.Need-holds-requires
+holds-requires c κs = small (c .before .before .before .before .before .before .before)
+
+add-end : tie.Need-add-end
+add-end c = search needs
+
+len-requires : tie.Need-len-requires
+len-requires c κs = search needs
+
+done-requires : tie.Need-done-requires
+done-requires c κs = search needs
+
+same-length : tie.Need-same-length
+same-length c = search needs
+
+returns : tie.Need-returns
+returns c = λ x. data-part (c .before .before .before .before .before .before .before .before .before .before .before .args .regs) (c .before .before .before .before .before .before .before .before .before .before .before .args .b) (c .before .before .before .before .before .before .before .before .before .before .before .args .held .now) (c .before .before .before .before .before .before .before .before .before .before .before .args .table .now) (c .before .before .before .before .before .before .before .before .before .before .before .args .bytes .now) x (room (c .before .before .before .before .before .before .before .before .before .before .before)) (c .before .before .len .result) _ (c .before .before .len .ensures) (c .before .if1 .taken) (c .done .ensures ∙ ap {B = Written} (λ (y : Regs). record { done = Good; regs = y }) (c .before .before .before .holds .ensures))
+
+slice-reshare-prefix-finish-write : tie.Need-slice-reshare-prefix-finish-write
+slice-reshare-prefix-finish-write c = set-room (c .before .before .before .before .before .before .before .before .before .before .args .held .now) (c .before .before .before .before .before .before .before .before .before .before .args .regs .write .taken) (c .before .before .before .before .before .before .before .before .before .before .args .b) (room (c .before .before .before .before .before .before .before .before .before .before))
+
+slice-aggregate-finish-write : tie.Need-slice-aggregate-finish-write
+slice-aggregate-finish-write c = set-count (c .before .before .before .before .before .before .before .before .before .before .before .args .held .now) (c .before .before .before .before .before .before .before .before .before .before .before .args .regs .write .taken) (c .before .before .before .before .before .before .before .before .before .before .before .args .b) (room (c .before .before .before .before .before .before .before .before .before .before .before))
+
+finish-write-requires : tie.Need-finish-write-requires
+finish-write-requires c κs = set-few (c .before .before .before .before .before .before .before .before .before .before .before .before .before .args .held .now) (c .before .before .before .before .before .before .before .before .before .before .before .before .before .args .regs .write .taken) (c .before .before .before .before .before .before .before .before .before .before .before .before .before .args .b) (room (c .before .before .before .before .before .before .before .before .before .before .before .before .before)) (small (c .before .before .before .before .before .before .before .before .before .before .before .before .before))
+
+enum-told : tie.Need-enum-told
+enum-told c = search needs
+
+enum-known-done : tie.Need-enum-known-done
+enum-known-done c = search needs
+
+slice-write-held-2 : tie.Need-slice-write-held-2
+slice-write-held-2 c = set-in (c .before .before .before .before .before .before .before .before .before .before .before .before .before .before .before .before .before .before .before .before .before .args .held .now) (c .before .before .before .before .before .before .before .before .before .before .before .before .before .before .before .before .before .before .before .before .before .args .regs .write .taken) (c .before .before .before .before .before .before .before .before .before .before .before .before .before .before .before .before .before .before .before .before .before .args .b) (room (c .before .before .before .before .before .before .before .before .before .before .before .before .before .before .before .before .before .before .before .before .before))
+
+refused-requires : tie.Need-refused-requires
+refused-requires c κs = search needs
+
+same-length-2 : tie.Need-same-length-2
+same-length-2 c = search needs
+
+same-length-3 : tie.Need-same-length-3
+same-length-3 c = search needs
+
+same-length-4 : tie.Need-same-length-4
+same-length-4 c = search needs
+
+returns-2 : tie.Need-returns-2
+returns-2 c = λ x. data-good (c .before .before .before .before .before .before .before .before .before .before .before .before .before .before .before .before .before .before .before .before .args .regs) (c .before .before .before .before .before .before .before .before .before .before .before .before .before .before .before .before .before .before .before .before .args .b) (c .before .before .before .before .before .before .before .before .before .before .before .before .before .before .before .before .before .before .before .before .args .held .now) (c .before .before .before .before .before .before .before .before .before .before .before .before .before .before .before .before .before .before .before .before .args .table .now) (c .before .before .before .before .before .before .before .before .before .before .before .before .before .before .before .before .before .before .before .before .args .bytes .now) x (room (c .before .before .before .before .before .before .before .before .before .before .before .before .before .before .before .before .before .before .before .before)) (c .before .before .before .before .before .before .before .before .before .before .before .len .result) (c .before .before .before .before .before .before .finish-write .result) _ _ (c .before .before .before .before .before .before .before .before .before .before .before .len .ensures) (c .before .before .before .before .before .before .before .before .before .before .if1 .left) (c .before .before .before .before .before .before .before .before .before .before .before .before .holds .result) _ (c .before .before .before .before .before .before .before .before .before .before .before .before .holds .ensures) refl (c .enum-told .given .1) (c .before .before .before .before .before .before .finish-write .ensures)
+
+same-length-5 : tie.Need-same-length-5
+same-length-5 c = search needs
+
+same-length-6 : tie.Need-same-length-6
+same-length-6 c = search needs
+
+same-length-7 : tie.Need-same-length-7
+same-length-7 c = search needs
+
+returns-3 : tie.Need-returns-3
+returns-3 c = λ x. data-refused (c .before .before .before .before .before .before .before .before .before .before .before .before .before .before .before .before .before .before .before .before .before .before .args .regs) (c .before .before .before .before .before .before .before .before .before .before .before .before .before .before .before .before .before .before .before .before .before .before .args .b) (c .before .before .before .before .before .before .before .before .before .before .before .before .before .before .before .before .before .before .before .before .before .before .args .held .now) (c .before .before .before .before .before .before .before .before .before .before .before .before .before .before .before .before .before .before .before .before .before .before .args .table .now) (c .before .before .before .before .before .before .before .before .before .before .before .before .before .before .before .before .before .before .before .before .before .before .args .bytes .now) x (room (c .before .before .before .before .before .before .before .before .before .before .before .before .before .before .before .before .before .before .before .before .before .before)) (c .before .before .before .before .before .before .before .before .before .before .before .before .before .len .result) (c .before .before .before .before .before .before .before .before .finish-write .result) _ _ (c .before .before .before .before .before .before .before .before .before .before .before .before .before .len .ensures) (c .before .before .before .before .before .before .before .before .before .before .before .before .if1 .left) (c .before .before .before .before .before .before .before .before .before .before .before .before .before .before .holds .result) _ (c .before .before .before .before .before .before .before .before .before .before .before .before .before .before .holds .ensures) refl _ _ (c .before .before .done2 .given .1) (c .refused .ensures) (c .before .before .before .before .before .before .before .before .finish-write .ensures)
+
+pub data-byte-spec : {M : Type 1} → statement M
+data-byte-spec =
+    tie.close
+    (tie.spec
+    cast-at
+    slice-read-was
+    slice-write-held
+    holds-requires
+    add-end
+    len-requires
+    done-requires
+    same-length
+    returns
+    slice-reshare-prefix-finish-write
+    slice-aggregate-finish-write
+    finish-write-requires
+    enum-told
+    enum-known-done
+    slice-write-held-2
+    refused-requires
+    same-length-2
+    same-length-3
+    same-length-4
+    returns-2
+    same-length-5
+    same-length-6
+    same-length-7
+    returns-3)

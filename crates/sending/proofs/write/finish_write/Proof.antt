@@ -1,0 +1,95 @@
+use mathlib.Core.Path.{_≡_, refl, sym, ap, _∙_}
+use borrow.Author.Tests.{eq-eqb, ne-eqb, lt-ltb, le-ltb, le-leb, lt-leb, not-true, not-false}
+use Rattle.store.specs.declared.answer.Done.the-variants.{Good}
+use Rattle.registers.specs.declared.regs.Written.{Written}
+use Rattle.registers.specs.declared.regs.Regs.{Regs}
+use Rattle.commands.proofs.Effects.{finish-none, finish-ran}
+use Rattle.commands.specs.Commands.{writeReply}
+use Rattle.registers.specs.Settle.{replied}
+use borrow.Author.Needs.{needs}
+use Rattle.sending.proofs.write.finish_write.Statement.{statement}
+use Rattle.sending.proofs.write.finish_write.Tie as tie
+
+finished-requires : tie.Need-finished-requires
+finished-requires c κs = search needs
+
+from-c1-requires : tie.Need-from-c1-requires
+from-c1-requires c κs = search needs
+
+add-reply7 : tie.Need-add-reply7
+add-reply7 c = search needs
+
+reply7-requires : tie.Need-reply7-requires
+reply7-requires c κs = search needs
+
+returns : tie.Need-returns
+unfolding writeReply
+returns c = let q = finish-none (c .before .before .before .before .before .before .before .before .before .before .before .args .regs) (c .before .before .before .before .before .before .before .before .before .before .before .args .table .now) (c .before .before .before .before .before .before .before .before .before .before .before .args .bytes .now) (c .before .before .before .before .before .before .before .before .before .before .before .args .regs .write .c1) (c .before .before .before .before .before .before .before .before .before .before .before .args .regs .write .id) (c .before .before .before .before .before .before .before .before .before .before .before .args .held .now) (c .before .before .before .before .before .before .before .before .before .before .before .pre) (not-true _ (c .if1 .taken)) in ((c .before .before .reply7 .ensures ∙ simp (c .before .before .before .from-c1 .ensures) (ap {B = Written} (λ (x : Regs). record { done = Good; regs = replied (writeReply (c .before .before .before .before .before .before .before .before .before .before .before .args .regs .write .c1) (c .before .before .before .before .before .before .before .before .before .before .before .args .regs .write .id)) x }) (c .before .before .before .before .finished .ensures))) ∙ q .0, q .1)
+
+save-requires : tie.Need-save-requires
+save-requires c κs = search needs
+
+enum-known-why : tie.Need-enum-known-why
+enum-known-why c = search needs
+
+refused-requires : tie.Need-refused-requires
+refused-requires c κs = search needs
+
+enum-told : tie.Need-enum-told
+enum-told c = search needs
+
+enum-told-2 : tie.Need-enum-told-2
+enum-told-2 c = search needs
+
+same-length : tie.Need-same-length
+same-length c = search needs
+
+same-length-2 : tie.Need-same-length-2
+same-length-2 c = search needs
+
+returns-2 : tie.Need-returns-2
+returns-2 c = let q = finish-ran (c .before .before .before .before .before .before .before .before .before .before .before .before .before .before .before .before .before .before .before .before .before .before .args .regs) (c .before .before .before .before .before .before .before .before .before .before .before .before .before .before .before .before .before .before .before .before .before .before .args .table .now) (c .before .before .before .before .before .before .before .before .before .before .before .before .before .before .before .before .before .before .before .before .before .before .args .bytes .now) (c .before .before .before .before .before .before .before .before .before .before .before .before .before .before .before .before .before .before .before .before .before .before .args .regs .write .c1) (c .before .before .before .before .before .before .before .before .before .before .before .before .before .before .before .before .before .before .before .before .before .before .args .regs .write .id) (c .before .before .before .before .before .before .before .before .before .before .before .before .before .before .before .before .before .before .before .before .before .before .args .held .now) (c .before .before .before .before .before .before .before .before .before .before .before .before .before .before .before .before .before .before .before .before .before .before .pre) _ _ _ _ (not-false _ (c .before .before .before .before .before .before .before .before .before .before .before .if1 .left)) (c .before .before .why .given .1) (c .before .before .before .before .before .before .before .before .save .ensures) in (c .refused .ensures ∙ q .0, q .1)
+
+same-length-3 : tie.Need-same-length-3
+same-length-3 c = search needs
+
+same-length-4 : tie.Need-same-length-4
+same-length-4 c = search needs
+
+returns-3 : tie.Need-returns-3
+unfolding writeReply
+returns-3 c = let q = finish-ran (c .before .before .before .before .before .before .before .before .before .before .before .before .before .before .before .before .before .before .before .before .args .regs) (c .before .before .before .before .before .before .before .before .before .before .before .before .before .before .before .before .before .before .before .before .args .table .now) (c .before .before .before .before .before .before .before .before .before .before .before .before .before .before .before .before .before .before .before .before .args .bytes .now) (c .before .before .before .before .before .before .before .before .before .before .before .before .before .before .before .before .before .before .before .before .args .regs .write .c1) (c .before .before .before .before .before .before .before .before .before .before .before .before .before .before .before .before .before .before .before .before .args .regs .write .id) (c .before .before .before .before .before .before .before .before .before .before .before .before .before .before .before .before .before .before .before .before .args .held .now) (c .before .before .before .before .before .before .before .before .before .before .before .before .before .before .before .before .before .before .before .before .pre) _ _ _ _ (not-false _ (c .before .before .before .before .before .before .before .before .before .if1 .left)) (c .enum-told .given .1) (c .before .before .before .before .before .before .save .ensures) in ((c .before .before .before .before .before .before .before .before .before .before .before .reply7 .ensures ∙ simp (c .before .before .before .before .before .before .before .before .before .before .before .before .from-c1 .ensures) (ap {B = Written} (λ (x : Regs). record { done = Good; regs = replied (writeReply (c .before .before .before .before .before .before .before .before .before .before .before .before .before .before .before .before .before .before .before .before .args .regs .write .c1) (c .before .before .before .before .before .before .before .before .before .before .before .before .before .before .before .before .before .before .before .before .args .regs .write .id)) x }) (c .before .before .before .before .before .before .before .before .before .before .before .before .before .finished .ensures))) ∙ q .0, q .1)
+
+same-length-5 : tie.Need-same-length-5
+same-length-5 c = search needs
+
+same-length-6 : tie.Need-same-length-6
+same-length-6 c = search needs
+
+returns-4 : tie.Need-returns-4
+unfolding writeReply
+returns-4 c = let q = finish-ran (c .before .before .before .before .before .before .before .before .before .before .before .before .before .before .before .before .before .before .before .before .args .regs) (c .before .before .before .before .before .before .before .before .before .before .before .before .before .before .before .before .before .before .before .before .args .table .now) (c .before .before .before .before .before .before .before .before .before .before .before .before .before .before .before .before .before .before .before .before .args .bytes .now) (c .before .before .before .before .before .before .before .before .before .before .before .before .before .before .before .before .before .before .before .before .args .regs .write .c1) (c .before .before .before .before .before .before .before .before .before .before .before .before .before .before .before .before .before .before .before .before .args .regs .write .id) (c .before .before .before .before .before .before .before .before .before .before .before .before .before .before .before .before .before .before .before .before .args .held .now) (c .before .before .before .before .before .before .before .before .before .before .before .before .before .before .before .before .before .before .before .before .pre) _ _ _ _ (not-false _ (c .before .before .before .before .before .before .before .before .before .if1 .left)) (c .enum-told2 .given .1) (c .before .before .before .before .before .before .save .ensures) in ((c .before .before .before .before .before .before .before .before .before .before .before .reply7 .ensures ∙ simp (c .before .before .before .before .before .before .before .before .before .before .before .before .from-c1 .ensures) (ap {B = Written} (λ (x : Regs). record { done = Good; regs = replied (writeReply (c .before .before .before .before .before .before .before .before .before .before .before .before .before .before .before .before .before .before .before .before .args .regs .write .c1) (c .before .before .before .before .before .before .before .before .before .before .before .before .before .before .before .before .before .before .before .before .args .regs .write .id)) x }) (c .before .before .before .before .before .before .before .before .before .before .before .before .before .finished .ensures))) ∙ q .0, q .1)
+
+pub finish-write-spec : {M : Type 1} → statement M
+finish-write-spec =
+    tie.close
+    (tie.spec
+    finished-requires
+    from-c1-requires
+    add-reply7
+    reply7-requires
+    returns
+    save-requires
+    enum-known-why
+    refused-requires
+    enum-told
+    enum-told-2
+    same-length
+    same-length-2
+    returns-2
+    same-length-3
+    same-length-4
+    returns-3
+    same-length-5
+    same-length-6
+    returns-4)

@@ -1,0 +1,18 @@
+-- What a byte sent answers and leaves. `proofs/Seen.antt` proves that this, seen as boxes, is the machine.
+use Prim.Native.Nat.{ℕ}
+use mathlib.Core.Bool.{not}
+use mathlib.Core.List.{List}
+use Rattle.fields.specs.Refusals.{Result, need}
+use Rattle.fields.specs.declared.refusal.Refusal.the-variants.{BadController}
+use Rattle.registers.specs.declared.regs.Regs.{Regs}
+use Rattle.registers.specs.Boxes.{Sent}
+use Rattle.registers.specs.View.{settingOf, slotOf, insideOf, impossibleIn}
+use Rattle.sending.specs.Machine.{sent}
+use Rattle.commands.specs.Lent.{Left, leftOf}
+
+-- 1, or what the machine says of the boxes that are seen
+unfoldable pub sentTo : Regs → ℕ → List ℕ → List ℕ → List ℕ → List ℕ → Result Sent
+sentTo r b h t d x = need (not (impossibleIn x r)) BadController (sent (settingOf d x) (insideOf r h (slotOf r t d)) b)
+
+unfoldable pub dataWrite : Regs → ℕ → List ℕ → List ℕ → List ℕ → List ℕ → Left
+dataWrite r b h t d x = leftOf (sentTo r b h t d x) r h t d x

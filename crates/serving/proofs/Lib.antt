@@ -1,0 +1,4 @@
+-- Laws that more than one proof cites.
+pub mod Extents
+pub mod Gathers
+pub mod Servings

@@ -1,0 +1,2 @@
+-- Laws that more than one proof cites, and those that the crates above use.
+pub mod Tracks

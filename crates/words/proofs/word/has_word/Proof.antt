@@ -1,0 +1,31 @@
+use Rattle.words.specs.Words.{hasWord}
+use mathlib.Core.Path.{_≡_, refl, sym, ap, _∙_}
+use borrow.Author.Needs.{needs}
+use Rattle.words.proofs.word.has_word.Statement.{statement}
+use Rattle.words.proofs.word.has_word.Tie as tie
+
+enum-told : tie.Need-enum-told
+enum-told c = search needs
+
+enum-told-2 : tie.Need-enum-told-2
+enum-told-2 c = search needs
+
+enum-known-a : tie.Need-enum-known-a
+enum-known-a c = search needs
+
+refusal-word-requires : tie.Need-refusal-word-requires
+refusal-word-requires c κs = search needs
+
+returns : tie.Need-returns
+returns c = search needs
+
+returns-2 : tie.Need-returns-2
+returns-2 c = search needs
+
+returns-3 : tie.Need-returns-3
+returns-3 c = c .refusal-word .ensures ∙ ap hasWord (sym (c .before .before .a .given .1))
+
+pub has-word-spec : {M : Type 1} → statement M
+has-word-spec =
+    tie.close
+    (tie.spec enum-told enum-told-2 enum-known-a refusal-word-requires returns returns-2 returns-3)

@@ -1,0 +1,2 @@
+-- The definition that a reader must believe: the answer word.
+pub mod Words

@@ -1,0 +1,73 @@
+// The answer word of each kind of answer.
+use fields::Refusal;
+use registers::Byte;
+use registers::Flag;
+use store::Done;
+use store::Geometry;
+use store::Has;
+ghost use mathlib.Core.Path.{_≡_};
+ghost use Rattle.words.specs.Words.{refusalWord, boolWord, byteWord, flagWord, doneWord, hasWord, geometryWord};
+
+pub fn wide(b: u8) -> u64
+    ensures { λ r. ⌜ r ≡ b ⌝ }
+{
+    b as u64
+}
+
+pub fn refusal_word(why: Refusal) -> u64
+    ensures { λ r. ⌜ r ≡ refusalWord why ⌝ }
+{
+    256 * wide(why.number())
+}
+
+fn bool_word(f: bool) -> u64
+    ensures { λ r. ⌜ r ≡ boolWord f ⌝ }
+{
+    if f { 1 } else { 0 }
+}
+
+pub fn byte_word(a: Byte) -> u64
+    ensures { λ r. ⌜ r ≡ byteWord a ⌝ }
+{
+    match a {
+        Byte::Of(b) => wide(b),
+        Byte::Refused(why) => refusal_word(why),
+    }
+}
+
+pub fn flag_word(a: Flag) -> u64
+    ensures { λ r. ⌜ r ≡ flagWord a ⌝ }
+{
+    match a {
+        Flag::Of(f) => bool_word(f),
+        Flag::Refused(why) => refusal_word(why),
+    }
+}
+
+pub fn done_word(a: Done) -> u64
+    ensures { λ r. ⌜ r ≡ doneWord a ⌝ }
+{
+    match a {
+        Done::Good => 0,
+        Done::Refused(why) => refusal_word(why),
+    }
+}
+
+pub fn has_word(a: Has) -> u64
+    ensures { λ r. ⌜ r ≡ hasWord a ⌝ }
+{
+    match a {
+        Has::Yes => 1,
+        Has::No => 0,
+        Has::Refused(why) => refusal_word(why),
+    }
+}
+
+pub fn geometry_word(a: Geometry) -> u64
+    ensures { λ r. ⌜ r ≡ geometryWord a ⌝ }
+{
+    match a {
+        Geometry::Of(c0, c1) => wide(c0) + 65536 * wide(c1),
+        Geometry::Refused(why) => refusal_word(why),
+    }
+}
