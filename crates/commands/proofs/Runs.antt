@@ -16,7 +16,6 @@ use Rattle.store.specs.Store.{contents}
 use Rattle.store.specs.Fresh.{formatted}
 use Rattle.disk.specs.Change.{saved, setTrack}
 use Rattle.store.specs.Calls.{fitting}
-use Rattle.store.specs.declared.answer.Done.the-variants as finished
 use Rattle.kinds.specs.declared.kind.Kind.{Kind}
 use Rattle.registers.specs.declared.regs.Regs.{Regs}
 use Rattle.registers.specs.declared.regs.Written.{Written}

@@ -1,11 +1,11 @@
 -- What each command does (01, "Commands"). The store is looked at exactly where a definition asks for the disk that a slot holds.
-use Prim.Native.Nat.{ℕ, _+_, _*_, _-_, _/_, _%_}
+use Prim.Native.Nat.{ℕ, _+_, _-_, _/_, _%_}
 use mathlib.Core.Bool.{Bool, true, false, cond}
-use mathlib.Core.List.{List, [], _∷_, _++_}
-use mathlib.Core.Option.{Option, none, some}
+use mathlib.Core.List.{List, [], _∷_}
+use mathlib.Core.Option.{none, some}
 use lib.ListN.{length, getD}
 use lib.Dec.{eqb, leb}
-use Rattle.fields.specs.Refusals.{Result, refused, good, need, after}
+use Rattle.fields.specs.Refusals.{Result, good, need, after}
 use Rattle.fields.specs.Model.{sizeOf, Sector, Disk, total, byteCount}
 use Rattle.fields.specs.declared.id.SectorId.{SectorId}
 use Rattle.fields.specs.declared.refusal.Refusal.the-variants.{NoRoom, NoTransferRoom}
@@ -17,7 +17,7 @@ use Rattle.disk.specs.Change.{saved, setTrack}
 use Rattle.store.specs.Calls.{fitting}
 use Rattle.kinds.specs.declared.kind.Kind.{Kind}
 use Rattle.kinds.specs.declared.kind.Kind.the-variants.{Specify, SenseDrive, Recalibrate, SenseInterrupt, SeekTo, Version, ReadData, ReadDeleted, WriteData, ReadId, FormatTrack, Unserved, Invalid}
-use Rattle.registers.specs.Boxes.{Setting, Slot, Empty, Holds, Change, Clear, MoveTo, Turn, Start, Finish, Shift, Stay, Reply, ReplyIfNone, Seeking, Interrupt, Serve, Effect}
+use Rattle.registers.specs.Boxes.{Setting, Slot, Empty, Holds, Change, MoveTo, Turn, Start, Finish, Shift, Stay, Reply, ReplyIfNone, Seeking, Interrupt, Serve, Effect}
 
 -- ---- The parts of a command
 

@@ -1,5 +1,5 @@
 -- Every store that a successful change leaves is accepted, and holds the disk that the change makes.
-use mathlib.Core.Path.{_≡_, refl, sym, ap, _∙_}
+use mathlib.Core.Path.{_≡_, refl, sym, ap}
 use Prim.Native.Nat.{ℕ, _+_, _≤_}
 use native.Mathlib.Omega.{arith}
 use mathlib.Core.Bool.{Bool, true, false, cond}
@@ -8,7 +8,7 @@ use lib.ListN.{length}
 use lib.Dec.{leb}
 use borrow.Author.Tests.{leb-true}
 use Rattle.buffer.specs.Over.{over}
-use Rattle.fields.specs.Refusals.{Result, refused, good, need}
+use Rattle.fields.specs.Refusals.{Result, good, need}
 use Rattle.fields.specs.Model.{Track, Disk, total, sectorCount, byteCount}
 use Rattle.fields.specs.declared.id.SectorId.{SectorId}
 use Rattle.fields.specs.declared.refusal.Refusal.{Refusal}
@@ -17,7 +17,7 @@ use Rattle.store.specs.Search.{isTrack, isSector}
 use Rattle.store.specs.Calls.{within, fitting}
 use Rattle.store.proofs.Rounds.{laid-back}
 use Rattle.disk.specs.Change.{change, withContent, savedIn, saved}
-use Rattle.disk.proofs.Holds.{Fits, fits}
+use Rattle.disk.proofs.Holds.{fits}
 use Rattle.disk.proofs.Cuts.{change-length}
 
 -- ---- a save keeps the number of tracks and of sectors

@@ -9,7 +9,6 @@ use lib.Dec.{leb, ltb}
 use borrow.Author.Tests.{lt-ltb, le-ltb, lt-leb, le-leb, ltb-true, ltb-false}
 use Rattle.fields.specs.Bytes.{byteAt, numberAt, textAt, readOf, stringOf}
 use Rattle.buffer.specs.Same.{sameBytes}
-use Rattle.fields.specs.declared.refusal.Refusal.{Refusal}
 use Rattle.fields.specs.declared.refusal.Refusal.the-variants.{ShortImage}
 use Rattle.fields.specs.declared.read.Read.the-variants as read
 use Rattle.fields.specs.declared.read.Text.{Text}

@@ -1,10 +1,9 @@
 -- The laws about `sizeOf`: what is known of a size wherever one is used.
-use mathlib.Core.Path.{_≡_, sym}
+use mathlib.Core.Path.{_≡_}
 use Prim.Native.Nat.{ℕ, _+_, _*_, _%_, _^_, _≤_, _<_}
 use native.Mathlib.Omega.{arith}
-use native.Mathlib.Nat.{mod-lt}
 use lib.Pow.{pow-pos, pow-mono, shl-exact}
-use lib.Dec.{lit<, lit≤}
+use lib.Dec.{lit<}
 use Rattle.fields.specs.Model.{sizeOf}
 
 -- the shift by n's two low bits, as a word has it, is the size

@@ -9,9 +9,8 @@ use lib.Dec.{ltb}
 use borrow.Author.Tests.{lt-ltb, le-ltb, ltb-true, ltb-false}
 use Rattle.fields.specs.Refusals.{Result, refused, good, after}
 use Rattle.fields.specs.Model.{Track, Disk, total, trackBytes, sectorCount, byteCount}
-use Rattle.tracks.specs.Block.{trackOf}
+use Rattle.tracks.specs.Block.{trackOf, headOf, blockOf}
 use Rattle.image.specs.Dsk.{Dsk, entries, entryOf, headerOf, before, placed, tracksFrom, imageOf, dskOf}
-use Rattle.tracks.specs.Block.{headOf, blockOf}
 use Rattle.image.specs.Calls.{openedOf, past, readStep, entryStep, stepOf, leftOf, tracksIn, toCome, surveyOf}
 use Rattle.fields.specs.declared.refusal.Refusal.{Refusal}
 use Rattle.tracks.specs.declared.track.Kind.{Kind}

@@ -1,11 +1,11 @@
 -- The table of commands, for all 256 first bytes: no two rows overlap, and 187 bytes are "other".
-use mathlib.Core.Path.{_≡_, refl, sym, ap, _∙_}
+use mathlib.Core.Path.{_≡_, refl}
 use Prim.Native.Nat.{ℕ, zero, suc, _+_, _*_, _-_, _/_, _%_, _<_, _≤_}
 use native.Mathlib.Omega.{arith}
 use native.Mathlib.Decide.{ℕ-discrete}
 use mathlib.Core.Bool.{Bool, true, false, cond, _&&_}
 use mathlib.Core.List.{List, [], _∷_}
-use lib.Dec.{eqb, leb}
+use lib.Dec.{leb}
 use borrow.Author.Tests.{leb-true, ne-eqb}
 use Rattle.fields.proofs.Tests.{and-fst, and-snd}
 use Rattle.kinds.specs.Table.{Row, maskRows, rows, kindBy, kindOf, bytesFor}

@@ -81,6 +81,6 @@ impl St3 {
     pub fn from_c1(c1: u8) -> u8
         ensures { λ r. ⌜ r ≡ c1 % 8 ⌝ }
     {
-        c1 % 8
+        St0::from_c1(c1)
     }
 }

@@ -1,5 +1,5 @@
 -- How long a listing is at most: the lines by their fields, which are bytes and 16-bit words.
-use mathlib.Core.Path.{_≡_, refl, sym, ap, subst, _∙_}
+use mathlib.Core.Path.{_≡_, refl, sym, ap, subst}
 use Prim.Native.Nat.{ℕ, zero, suc, _+_, _-_, _*_, _≤_, _<_}
 use native.Mathlib.Omega.{arith}
 use mathlib.Core.List.{List, [], _++_}
@@ -8,9 +8,8 @@ use lib.Seq.{getD-drop}
 use Rattle.fields.specs.Refusals.{Result, refused, good, numberOf}
 use Rattle.fields.specs.Bytes.{byteAt, numberAt}
 use Rattle.fields.specs.Model.{Track, Disk, total, sectorCount}
-use Rattle.tracks.specs.Block.{rowAt, rowOf, trackIn, trackOf}
+use Rattle.tracks.specs.Block.{rowAt, rowBy, rowPlace, rowOf, trackIn, trackOf, headOf}
 use Rattle.image.specs.Dsk.{before}
-use Rattle.tracks.specs.Block.{headOf}
 use Rattle.image.specs.Calls.{stepOf, leftOf}
 use Rattle.fields.specs.declared.refusal.Refusal.{Refusal}
 use Rattle.tracks.specs.declared.track.Kind.{Kind}
@@ -21,7 +20,7 @@ use Rattle.image.specs.declared.walk.Step.the-variants as step
 use Rattle.tracks.specs.declared.track.Row.{Row}
 use Rattle.image.specs.declared.walk.Totals.{Totals}
 use Rattle.fields.proofs.Sizes.{size-most}
-use Rattle.tracks.proofs.Tracks.{sectors-length, track-good}
+use Rattle.tracks.proofs.Tracks.{track-good, track-count}
 use Rattle.image.proofs.Steps.{Moved, Says, says, falls}
 use Rattle.listing.specs.Text.{diskWord, kindWord, copies, trackLine, sectorLines, trackLines, printedAs}
 use Rattle.listing.specs.Lines.{rowLine, headLine, totalsLine, rowLines, blockLines}
@@ -68,26 +67,17 @@ module _ (b : List ℕ) (s : Small b) where
   unfolding numberAt
   word-small at = omega (arith, s at, s (at + 1))
 
+  at-sized : (at : ℕ) → Sized (rowAt b at)
+  unfolding rowAt
+  at-sized at = record { c = s at; h = s (at + 1); r = s (at + 2); n = s (at + 3); st1 = s (at + 4); st2 = s (at + 5); stored = word-small (at + 6) }
+
   row-sized : (kind : Kind) (k : ℕ) → Sized (rowOf kind b k)
-  unfolding rowOf rowAt
-  row-sized Normal k = record {
-    c = s (0x18 + 8 * k);
-    h = s (0x18 + 8 * k + 1);
-    r = s (0x18 + 8 * k + 2);
-    n = s (0x18 + 8 * k + 3);
-    st1 = s (0x18 + 8 * k + 4);
-    st2 = s (0x18 + 8 * k + 5);
-    stored = omega (arith, size-most (byteAt b (0x18 + 8 * k + 3)));
-  }
-  row-sized Extended k = record {
-    c = s (0x18 + 8 * k);
-    h = s (0x18 + 8 * k + 1);
-    r = s (0x18 + 8 * k + 2);
-    n = s (0x18 + 8 * k + 3);
-    st1 = s (0x18 + 8 * k + 4);
-    st2 = s (0x18 + 8 * k + 5);
-    stored = word-small (0x18 + 8 * k + 6);
-  }
+  unfolding rowOf
+  row-sized kind k = by kind (rowAt b (rowPlace k)) (at-sized (rowPlace k))
+    where
+      by : (kind : Kind) (row : Row) → Sized row → Sized (rowBy kind row)
+      by Normal row z = record { c = z .c; h = z .h; r = z .r; n = z .n; st1 = z .st1; st2 = z .st2; stored = omega (arith, size-most (row .id .n)) }
+      by Extended row z = z
 
   rows-few : (kind : Kind) (k left : ℕ) → length (rowLines kind b k left) ≤ 43 * left
   unfolding rowLines
@@ -109,7 +99,7 @@ module _ (b : List ℕ) (s : Small b) where
       let y : t .side ≡ byteAt b 0x11 = ap (λ (y : Track). y .side) (sym same) in
       let z : t .gap ≡ byteAt b 0x16 = ap (λ (y : Track). y .gap) (sym same) in
       let w : t .filler ≡ byteAt b 0x17 = ap (λ (y : Track). y .filler) (sym same) in
-      let v : length (t .sectors) ≡ byteAt b 0x15 = ap (λ (y : Track). length (y .sectors)) (sym same) ∙ sectors-length kind b 0 0x100 (byteAt b 0x15) in
+      let v : length (t .sectors) ≡ byteAt b 0x15 = track-count kind b t e in
       let l : length (blockLines kind b (headOf t)) ≡ length (trackLine t ++ sectorLines (t .sectors)) = ap length (block-lines kind b t e (headOf t) refl) in
       omega (
         arith,

@@ -1,14 +1,13 @@
 -- The lines of a track block and of the tracks that a walk hands out, and the loops that lay them.
 use mathlib.Core.Path.{_≡_, refl, sym, ap, _∙_}
-use Prim.Native.Nat.{ℕ, zero, suc, _+_, _-_, _≤_, _<_}
+use Prim.Native.Nat.{ℕ, _+_, _-_, _≤_, _<_}
 use native.Mathlib.Omega.{arith}
 use mathlib.Core.List.{List, [], _∷_, _++_, append-assoc}
 use lib.ListN.{length, take, drop}
-use Rattle.fields.specs.Refusals.{Result, refused, good}
+use Rattle.fields.specs.Refusals.{Result, good}
 use Rattle.fields.specs.Bytes.{byteAt}
 use Rattle.fields.specs.Model.{Track, Disk}
-use Rattle.tracks.specs.Block.{rowOf, sectorOf, sectorsFrom, storedFrom, trackIn, trackOf}
-use Rattle.tracks.specs.Block.{headOf}
+use Rattle.tracks.specs.Block.{rowOf, sectorOf, sectorsFrom, storedFrom, trackIn, trackOf, headOf}
 use Rattle.image.specs.Calls.{leftOf, tracksIn, toCome}
 use Rattle.fields.specs.declared.refusal.Refusal.{Refusal}
 use Rattle.tracks.specs.declared.track.Kind.{Kind}
@@ -16,7 +15,7 @@ use Rattle.image.specs.declared.walk.Walk.{Walk}
 use Rattle.tracks.specs.declared.track.Head.{Head}
 use Rattle.tracks.specs.declared.track.Row.{Row}
 use Rattle.image.specs.declared.walk.Step.the-variants as step
-use Rattle.tracks.proofs.Tracks.{down, whole-part, sectors-length, track-good}
+use Rattle.tracks.proofs.Tracks.{down, by-entries, track-good, track-count}
 use Rattle.image.proofs.Steps.{Says, come-split}
 use Rattle.listing.specs.Text.{sectorLine, trackLine, sectorLines, trackLines, sectorText}
 use Rattle.listing.specs.Lines.{Laid, rowLine, headLine, rowLines, blockLines, Listable}
@@ -39,23 +38,18 @@ module _ (kind : Kind) (b : List ℕ) where
   -- the lines of the sectors that a block holds
   rows-lines : (k place left : ℕ) → (0 < storedFrom kind b k left → place + storedFrom kind b k left ≤ length b)
       → rowLines kind b k left ≡ sectorLines (sectorsFrom kind b k place left)
-  unfolding rowLines sectorsFrom storedFrom sectorLines
-  rows-lines k place zero h = refl
-  rows-lines k place (suc left) h =
-      let n : ℕ = rowOf kind b k .stored in
-      let m : ℕ = storedFrom kind b (k + 1) left in
-      let here : 0 < n → place + n ≤ length b = λ p. omega (arith, h (omega arith)) in
-      let after : 0 < m → place + n + m ≤ length b = λ p. omega (arith, h (omega arith)) in
-      λ i. row-line (rowOf kind b k) (drop place b) (whole-part b place n here) i ++ rows-lines (k + 1) (place + n) left after i
+  unfolding rowLines sectorLines
+  rows-lines =
+      by-entries kind b (λ k left ss. rowLines kind b k left ≡ sectorLines ss) (λ k. refl)
+      (λ k place left ss e f i. row-line (rowOf kind b k) (drop place b) e i ++ f i)
 
   -- what is laid of a block is its track's line with its sectors under it
   pub block-lines : (t : Track) → trackOf kind b ≡ good t → (h : Head) → h ≡ headOf t → blockLines kind b h ≡ trackLine t ++ sectorLines (t .sectors)
   unfolding trackIn
   block-lines t e h f =
       let same : trackIn kind b ≡ t = track-good kind b t e .0 in
-      let count : length (t .sectors) ≡ byteAt b 0x15 = ap (λ (x : Track). length (x .sectors)) (sym same) ∙ sectors-length kind b 0 0x100 (byteAt b 0x15) in
       let lines : rowLines kind b 0 (length (t .sectors)) ≡ sectorLines (t .sectors) =
-      ap (rowLines kind b 0) count ∙ rows-lines 0 0x100 (byteAt b 0x15) (track-good kind b t e .1) ∙ ap (λ (x : Track). sectorLines (x .sectors)) same in
+      ap (rowLines kind b 0) (track-count kind b t e) ∙ rows-lines 0 0x100 (byteAt b 0x15) (track-good kind b t e .1) ∙ ap (λ (x : Track). sectorLines (x .sectors)) same in
       ap (blockLines kind b) f ∙ (λ i. head-line t i ++ lines i)
 
   -- what is left of a block's lines: at the start, after a row, at the end

@@ -1,27 +1,25 @@
 -- Laying tracks: what the parts of a table and of a data buffer are, and how one is laid behind another.
 use mathlib.Core.Path.{_≡_, refl, sym, ap, _∙_}
-use Prim.Native.Nat.{ℕ, zero, suc, _+_, _-_, _*_, _/_, _%_, _≤_, _<_, min}
+use Prim.Native.Nat.{ℕ, zero, suc, _+_, _-_, _*_, _≤_, _<_, min}
 use native.Mathlib.Omega.{arith}
 use native.Mathlib.Nat.{suc-mul}
-use mathlib.Core.List.{List, [], _∷_, _++_, append-assoc, append-nil}
-use mathlib.Core.Bool.{Bool, true, false, cond}
-use lib.ListN.{length, take, drop, replicate, length-append, length-take, length-drop, length-replicate, replicate-append-replicate}
-use lib.Seq.{take-add, drop-drop, take-append-add}
+use mathlib.Core.List.{List, [], _∷_, _++_}
+use lib.ListN.{length, take, drop, replicate, length-take, length-replicate, replicate-append-replicate}
+use lib.Seq.{take-add, drop-drop}
 use Rattle.buffer.specs.Over.{over}
 use Rattle.buffer.proofs.Overs.{over-over, over-nil, over-length}
 use Rattle.fields.specs.Refusals.{good}
 use Rattle.fields.specs.Bytes.{byteAt}
 use Rattle.fields.specs.Model.{sizeOf, Sector, Track, Disk, total, trackBytes, sectorCount, byteCount}
-use Rattle.tracks.specs.Block.{rowOf, sectorOf, sectorsFrom, storedFrom, trackIn, trackOf}
-use Rattle.tracks.specs.Block.{headOf}
+use Rattle.tracks.specs.Block.{rowOf, sectorOf, sectorsFrom, storedFrom, trackIn, trackOf, headOf}
 use Rattle.tracks.specs.declared.track.Kind.{Kind}
 use Rattle.tracks.specs.declared.track.Head.{Head}
 use Rattle.tracks.specs.declared.track.Row.{Row}
-use Rattle.tracks.proofs.Tracks.{down, whole-part, sectors-length, contents-whole, track-good}
+use Rattle.tracks.proofs.Tracks.{down, by-entries, contents-whole, track-good, track-count}
 use Rattle.store.proofs.Rounds.{rows-length, rows-before, contents-length}
-use Rattle.store.specs.Store.{rowFor, rowsFor, tracksFor, tableOf, contents, dataOf}
-use Rattle.store.specs.Fresh.{blank, blanksFrom, formatted, freshFrom}
-use Rattle.loading.specs.Laying.{headBytes, rowBytes, listFrom, trackFor, formattedBy, Layable}
+use Rattle.store.specs.Store.{rowFor, rowsFor, tracksFor, contents, dataOf}
+use Rattle.store.specs.Fresh.{blanksFrom, formatted, freshFrom}
+use Rattle.loading.specs.Laying.{headBytes, rowBytes, listFrom, trackFor, formattedBy}
 
 -- ---- one part behind another
 
@@ -67,24 +65,14 @@ pub list-step : (kind : Kind) (b : List ℕ) (k left : ℕ) → 0 < left → lis
 unfolding listFrom
 list-step kind b k = down (λ left l. listFrom kind b k left ≡ rowBytes (rowOf kind b k) ++ listFrom kind b (k + 1) l) (λ left. refl)
 
-pub list-length : (kind : Kind) (b : List ℕ) (k left : ℕ) → length (listFrom kind b k left) ≡ 8 * left
-unfolding listFrom
-list-length kind b k zero = refl
-list-length kind b k (suc left) = omega (arith, list-length kind b (k + 1) left)
-
 module _ (kind : Kind) (b : List ℕ) where
   -- the rows and the bytes of the sectors that a block holds
   list-rows : (k place left : ℕ) → (0 < storedFrom kind b k left → place + storedFrom kind b k left ≤ length b)
       → listFrom kind b k left ≡ rowsFor (sectorsFrom kind b k place left) []
-  unfolding listFrom sectorsFrom storedFrom rowsFor
-  list-rows k place zero h = refl
-  list-rows k place (suc left) h =
-      let n : ℕ = rowOf kind b k .stored in
-      let m : ℕ = storedFrom kind b (k + 1) left in
-      let here : 0 < n → place + n ≤ length b = λ p. omega (arith, h (omega arith)) in
-      let after : 0 < m → place + n + m ≤ length b = λ p. omega (arith, h (omega arith)) in
-      ap (λ (l : List ℕ). rowBytes (rowOf kind b k) ++ l) (list-rows (k + 1) (place + n) left after)
-      ∙ sym (row-is (rowOf kind b k) (drop place b) (rowsFor (sectorsFrom kind b (k + 1) (place + n) left) []) (whole-part b place n here))
+  unfolding listFrom rowsFor
+  list-rows =
+      by-entries kind b (λ k left ss. listFrom kind b k left ≡ rowsFor ss []) (λ k. refl)
+      (λ k place left ss e f. ap (λ (l : List ℕ). rowBytes (rowOf kind b k) ++ l) f ∙ sym (row-is (rowOf kind b k) (drop place b) (rowsFor ss []) e))
 
   contents-are : (k place left : ℕ) → take (storedFrom kind b k left) (drop place b) ≡ contents (sectorsFrom kind b k place left)
   unfolding sectorsFrom storedFrom contents
@@ -97,11 +85,7 @@ module _ (kind : Kind) (b : List ℕ) where
       ∙ ap (λ (l : List ℕ). take n (drop place b) ++ l) (contents-are (k + 1) (place + n) left)
 
   module _ (t : Track) (e : trackOf kind b ≡ good t) where
-    -- how many sectors and bytes the track of a block has, by the block
-    pub track-count : length (t .sectors) ≡ byteAt b 0x15
-    unfolding trackIn
-    track-count = ap (λ (x : Track). length (x .sectors)) (sym (track-good kind b t e .0)) ∙ sectors-length kind b 0 0x100 (byteAt b 0x15)
-
+    -- how many bytes the track of a block has, by the block
     pub track-stored : trackBytes t ≡ storedFrom kind b 0 (byteAt b 0x15)
     unfolding trackIn
     track-stored = ap trackBytes (sym (track-good kind b t e .0)) ∙ contents-whole kind b 0 0x100 (byteAt b 0x15) (track-good kind b t e .1)
@@ -112,7 +96,7 @@ module _ (kind : Kind) (b : List ℕ) where
     track-laid =
         let l : listFrom kind b 0 (byteAt b 0x15) ≡ rowsFor (trackIn kind b .sectors) [] = list-rows 0 0x100 (byteAt b 0x15) (track-good kind b t e .1) in
         let m : listFrom kind b 0 (length (t .sectors)) ≡ rowsFor (t .sectors) [] =
-        ap (listFrom kind b 0) track-count ∙ l ∙ ap (λ (x : Track). rowsFor (x .sectors) []) (track-good kind b t e .0) in
+        ap (listFrom kind b 0) (track-count kind b t e) ∙ l ∙ ap (λ (x : Track). rowsFor (x .sectors) []) (track-good kind b t e .0) in
         ap (λ (l : List ℕ). headBytes (headOf t) ++ l) m
 
     pub bytes-laid : take (trackBytes t) (drop 0x100 b) ≡ contents (t .sectors)

@@ -29,6 +29,20 @@ const MOST_HEX: usize = 24;
 // A disk with more tracks or sectors is not printed whole.
 const MOST_PRINTED: usize = 40;
 
+// A disk's table, and its data.
+type Table = [u8; 17609];
+
+type Bytes = [u8; 1048576];
+
+// The transfer buffer, longer than its room can be.
+type Transfer = [u8; 131072];
+
+// An image or a session's calls, as they are taken from the list.
+type Taken = [u8; 65536];
+
+// What data-port reads gave.
+type Out = [u8; 65536];
+
 // The controller, whether it is lent to the port calls, which disk is in its drive (0 none, 1 A, 2 B), and how many bytes
 // of each buffer are lent.
 struct Bench {
@@ -572,12 +586,12 @@ fn step(
     kind: usize,
     number: usize,
     text: &[u8],
-    table_a: &mut [u8; 17609],
-    bytes_a: &mut [u8; 1048576],
-    table_b: &mut [u8; 17609],
-    bytes_b: &mut [u8; 1048576],
-    transfer: &mut [u8; 131072],
-    out: &mut [u8; 65536],
+    table_a: &mut Table,
+    bytes_a: &mut Bytes,
+    table_b: &mut Table,
+    bytes_b: &mut Bytes,
+    transfer: &mut Transfer,
+    out: &mut Out,
 ) -> Bench {
     if kind != 5 && kind != 9 {
         return at_ports(bench, kind, number, text, transfer, out);
@@ -604,12 +618,12 @@ fn new_bench(lent: bool) -> Bench {
 fn play(
     lent: bool,
     calls: &[u8],
-    table_a: &mut [u8; 17609],
-    bytes_a: &mut [u8; 1048576],
-    table_b: &mut [u8; 17609],
-    bytes_b: &mut [u8; 1048576],
-    transfer: &mut [u8; 131072],
-    out: &mut [u8; 65536],
+    table_a: &mut Table,
+    bytes_a: &mut Bytes,
+    table_b: &mut Table,
+    bytes_b: &mut Bytes,
+    transfer: &mut Transfer,
+    out: &mut Out,
 ) -> Bench {
     let mut bench = new_bench(lent);
     let stop = least(calls.len(), LARGEST);
@@ -730,12 +744,12 @@ fn perform(
     image_a: &[u8],
     image_b: &[u8],
     calls: &[u8],
-    table_a: &mut [u8; 17609],
-    bytes_a: &mut [u8; 1048576],
-    table_b: &mut [u8; 17609],
-    bytes_b: &mut [u8; 1048576],
-    transfer: &mut [u8; 131072],
-    out: &mut [u8; 65536],
+    table_a: &mut Table,
+    bytes_a: &mut Bytes,
+    table_b: &mut Table,
+    bytes_b: &mut Bytes,
+    transfer: &mut Transfer,
+    out: &mut Out,
 ) -> bool {
     headed(lent, name);
     if !start(image_a, table_a, bytes_a) {
@@ -764,12 +778,12 @@ fn twice(
     image_a: &[u8],
     image_b: &[u8],
     calls: &[u8],
-    table_a: &mut [u8; 17609],
-    bytes_a: &mut [u8; 1048576],
-    table_b: &mut [u8; 17609],
-    bytes_b: &mut [u8; 1048576],
-    transfer: &mut [u8; 131072],
-    out: &mut [u8; 65536],
+    table_a: &mut Table,
+    bytes_a: &mut Bytes,
+    table_b: &mut Table,
+    bytes_b: &mut Bytes,
+    transfer: &mut Transfer,
+    out: &mut Out,
 ) -> bool {
     if !perform(
         false,
@@ -810,14 +824,14 @@ fn twice(
 fn session(
     name: &[u8],
     image_a: &[u8],
-    image_b: &mut [u8; 65536],
-    calls: &mut [u8; 65536],
-    table_a: &mut [u8; 17609],
-    bytes_a: &mut [u8; 1048576],
-    table_b: &mut [u8; 17609],
-    bytes_b: &mut [u8; 1048576],
-    transfer: &mut [u8; 131072],
-    out: &mut [u8; 65536],
+    image_b: &mut Taken,
+    calls: &mut Taken,
+    table_a: &mut Table,
+    bytes_a: &mut Bytes,
+    table_b: &mut Table,
+    bytes_b: &mut Bytes,
+    transfer: &mut Transfer,
+    out: &mut Out,
 ) -> bool {
     let Block::Whole(b) = take_block(image_b) else {
         return broken();
@@ -842,15 +856,15 @@ fn session(
 // Reads one session and runs it; no where the list ends.
 fn replay(
     name: &mut [u8; 256],
-    image_a: &mut [u8; 65536],
-    image_b: &mut [u8; 65536],
-    calls: &mut [u8; 65536],
-    table_a: &mut [u8; 17609],
-    bytes_a: &mut [u8; 1048576],
-    table_b: &mut [u8; 17609],
-    bytes_b: &mut [u8; 1048576],
-    transfer: &mut [u8; 131072],
-    out: &mut [u8; 65536],
+    image_a: &mut Taken,
+    image_b: &mut Taken,
+    calls: &mut Taken,
+    table_a: &mut Table,
+    bytes_a: &mut Bytes,
+    table_b: &mut Table,
+    bytes_b: &mut Bytes,
+    transfer: &mut Transfer,
+    out: &mut Out,
 ) -> bool {
     match replay::take_record(name, image_a) {
         replay::Record::End => false,
@@ -873,15 +887,15 @@ fn replay(
 // Replays every session.
 fn run(
     name: &mut [u8; 256],
-    image_a: &mut [u8; 65536],
-    image_b: &mut [u8; 65536],
-    calls: &mut [u8; 65536],
-    table_a: &mut [u8; 17609],
-    bytes_a: &mut [u8; 1048576],
-    table_b: &mut [u8; 17609],
-    bytes_b: &mut [u8; 1048576],
-    transfer: &mut [u8; 131072],
-    out: &mut [u8; 65536],
+    image_a: &mut Taken,
+    image_b: &mut Taken,
+    calls: &mut Taken,
+    table_a: &mut Table,
+    bytes_a: &mut Bytes,
+    table_b: &mut Table,
+    bytes_b: &mut Bytes,
+    transfer: &mut Transfer,
+    out: &mut Out,
 ) {
     let mut left = SESSIONS;
     while 0 < left {

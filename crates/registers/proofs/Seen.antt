@@ -5,12 +5,11 @@ use native.Mathlib.Omega.{arith}
 use native.Mathlib.Numerals.{add-one}
 use mathlib.Core.Bool.{Bool, true, false}
 use mathlib.Core.List.{List, [], _∷_}
-use mathlib.Core.Option.{Option, none, some}
+use mathlib.Core.Option.{some}
 use lib.ListN.{length, getD, take, drop, drop-of-length-le}
 use lib.Seq.{slice, slice-cons, length-take-le}
 use lib.Dec.{eqb, ltb}
 use borrow.Author.Tests.{ltb-true, ltb-false, lt-ltb}
-use Rattle.fields.specs.declared.refusal.Refusal.the-variants.{BadController}
 use Rattle.store.specs.Store.{diskOf}
 use Rattle.store.specs.declared.answer.Done.the-variants as finished
 use Rattle.registers.specs.declared.regs.Regs.{Regs}
@@ -19,11 +18,11 @@ use Rattle.registers.specs.declared.regs.Told.{Told}
 use Rattle.registers.specs.declared.regs.Written.{Written}
 use Rattle.registers.specs.declared.regs.Byte.the-variants as byte
 use Rattle.registers.specs.declared.regs.Flag.the-variants as flag
-use Rattle.registers.specs.Boxes.{Slot, Inside, Front, World, withSlot}
-use Rattle.registers.specs.Ports.{phase, seekBit, settled, some?, on?, status, Poll, Stays, Counts, Drops, pollBy, polled, settledIn, afterStatus, Source, Bytes, Replies, Neither, sourceBy, given, readFrom, portByte, afterRead, setMotor, changeDisk}
-use Rattle.registers.specs.View.{slotIf, slotOf, writingIf, insideOf, frontOf, worldOf, impossible, impossibleIn}
+use Rattle.registers.specs.Boxes.{Slot, World}
+use Rattle.registers.specs.Ports.{settled, some?, on?, status, Poll, Stays, Counts, Drops, pollBy, polled, settledIn, afterStatus, Source, Bytes, Replies, Neither, sourceBy, given, readFrom, portByte, afterRead, setMotor, changeDisk}
+use Rattle.registers.specs.View.{slotIf, slotOf, writingIf, insideOf, frontOf, worldOf, impossibleIn}
 use Rattle.registers.specs.Settle.{sought}
-use Rattle.registers.specs.Calls.{statusOf, regsPolled, afterStatusOf, statusRead, sourceOf, byteFrom, regsRead, dataRead, motorSet, diskSet, motorOf, trackOf, diskIn}
+use Rattle.registers.specs.Calls.{statusOf, regsPolled, afterStatusOf, statusRead, sourceOf, byteFrom, regsRead, dataRead, motorSet, diskSet, motorOf, trackOf}
 use Rattle.registers.proofs.Numbers.{possible, possible-in, until-long, count-few}
 
 -- ---- whether a box is empty

@@ -3,7 +3,7 @@ use Prim.Native.Nat.{ℕ, _+_, _%_}
 use mathlib.Core.Bool.{Bool}
 use mathlib.Core.List.{List, [], _∷_, _++_}
 use mathlib.Core.Option.{Option, none, some}
-use Rattle.fields.specs.Refusals.{Result, refused, good}
+use Rattle.fields.specs.Refusals.{Result, good}
 use Rattle.fields.specs.Model.{Disk}
 use Rattle.fields.specs.declared.id.SectorId.{SectorId}
 use Rattle.registers.specs.declared.regs.Seek.{Seek}

@@ -7,7 +7,7 @@ use lib.ListN.{getD, drop}
 use lib.Dec.{eqb}
 use Rattle.registers.specs.declared.regs.Seek.{Seek}
 use Rattle.registers.specs.declared.regs.Seek.the-variants.{Idle, Running, Done}
-use Rattle.registers.specs.Boxes.{Slot, Writing, Inside, Front, World, withSlot}
+use Rattle.registers.specs.Boxes.{Slot, Writing, Front, World, withSlot}
 
 -- ---- Status read
 

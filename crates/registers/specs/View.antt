@@ -1,12 +1,12 @@
 -- The controller's numbers and the lent buffers, seen as boxes; and the numbers that no controller has.
 use Prim.Native.Nat.{ℕ, _%_}
 use mathlib.Core.Bool.{Bool, true, false, not, _||_, _&&_}
-use mathlib.Core.List.{List, [], _∷_}
+use mathlib.Core.List.{List}
 use mathlib.Core.Option.{Option, none, some}
-use lib.ListN.{length, getD, take}
+use lib.ListN.{getD, take}
 use lib.Seq.{slice}
 use lib.Dec.{eqb, ltb, leb}
-use Rattle.fields.specs.Refusals.{Result, refused, good}
+use Rattle.fields.specs.Refusals.{Result}
 use Rattle.fields.specs.Model.{sizeOf, Disk}
 use Rattle.store.specs.Store.{roomOf, diskOf, transferRoom}
 use Rattle.registers.specs.declared.regs.Regs.{Regs}

@@ -1,36 +1,32 @@
 -- A sequence of real calls is a run of the machine: so what is proved of runs holds of what a host gets.
 use mathlib.Core.Path.{_≡_, refl, sym, ap, ap₂, subst, _∙_}
-use Prim.Native.Nat.{ℕ, _+_, _≤_}
+use Prim.Native.Nat.{ℕ, _≤_}
 use native.Mathlib.Omega.{arith}
-use mathlib.Core.Bool.{Bool, true, false, _||_}
+use mathlib.Core.Bool.{Bool, true, false}
 use mathlib.Core.List.{List, [], _∷_}
-use mathlib.Core.Option.{Option, none, some}
 use lib.ListN.{length}
-use lib.Dec.{eqb, ltb}
 use borrow.Author.Tests.{le-ltb}
 use Rattle.fields.specs.Refusals.{Result, refused, good, after}
 use Rattle.fields.specs.declared.refusal.Refusal.the-variants.{BadController}
-use Rattle.store.specs.Store.{roomOf, transferRoom, diskOf}
-use Rattle.store.specs.declared.answer.Done.{Done as Finished}
-use Rattle.store.specs.declared.answer.Done.the-variants as finished
+use Rattle.store.specs.Store.{transferRoom}
 use Rattle.registers.specs.declared.regs.Regs.{Regs}
 use Rattle.registers.specs.declared.regs.Told.{Told}
 use Rattle.registers.specs.declared.regs.Byte.the-variants as byte
 use Rattle.registers.specs.Boxes.{Setting, Inside, World, Sent}
-use Rattle.registers.specs.Ports.{Poll, Stays, Counts, Drops, pollBy, settled, status, afterStatus, Source, Bytes, Replies, Neither, portByte, afterRead}
-use Rattle.registers.specs.View.{settingOf, slotOf, insideOf, worldOf, impossible, impossibleIn}
+use Rattle.registers.specs.Ports.{Poll, Stays, Counts, Drops, settled, status, afterStatus, Source, Bytes, Replies, Neither, portByte, afterRead}
+use Rattle.registers.specs.View.{slotOf, insideOf, impossible, impossibleIn}
 use Rattle.registers.specs.Settle.{sought, regsTaken, heldTaken, regsAll, regsShifted, regsOf}
 use Rattle.registers.specs.Calls.{statusOf, regsPolled, afterStatusOf, toldIf, statusRead, sourceOf, byteFrom, regsRead, dataRead}
 use Rattle.registers.proofs.Numbers.{possible, possible-in, until-in}
 use Rattle.registers.proofs.Seen.{status-seen, read-seen}
 use Rattle.sending.specs.Machine.{sent, done, writePort}
-use Rattle.commands.specs.Lent.{tableWith, dataWith, transferWith, Left, left, leftOf}
-use Rattle.sending.specs.Calls.{sentTo, dataWrite}
-use Rattle.floppy.specs.Calls.{Wrote, wrote, wroteAs}
+use Rattle.commands.specs.Lent.{tableWith, dataWith, transferWith, Left, leftOf}
+use Rattle.sending.specs.Calls.{dataWrite}
+use Rattle.floppy.specs.Calls.{wroteAs}
 use Rattle.sending.proofs.Seen.{Sees, write-seen, write-refused}
 use Rattle.sending.proofs.Sends.{sent-right}
 use Rattle.saves.specs.Events.{Event, poll, read, send, Answer, showed, gave, took, Played, noting, play}
-use Rattle.saves.specs.Hosts.{Host, Called, telling, byteThen, doneThen, withFloppy, wroteThen, calls, Sound, seen, lent}
+use Rattle.saves.specs.Hosts.{Host, Called, telling, byteThen, withFloppy, wroteThen, calls, Sound, seen, lent}
 use Rattle.saves.proofs.Kept.{Whole, Rooms, whole-sent, sent-room, transfer-kept, room-kept}
 
 -- ---- what stays true from call to call

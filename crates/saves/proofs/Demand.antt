@@ -1,25 +1,24 @@
 -- Demand 3, on the machine: what saves leave on the disk.
 use mathlib.Core.Path.{_≡_, refl, sym, ap, _∙_}
-use Prim.Native.Nat.{ℕ, zero, suc, _+_, _%_, _≤_, _<_}
+use Prim.Native.Nat.{ℕ, _%_}
 use native.Mathlib.Omega.{arith}
 use mathlib.Core.Bool.{Bool, true, false}
-use mathlib.Core.List.{List, [], _∷_, _++_}
-use mathlib.Core.Option.{none}
+use mathlib.Core.List.{List, [], _∷_}
 use lib.ListN.{length}
-use lib.Dec.{eqb, leb}
+use lib.Dec.{leb}
 use borrow.Author.Tests.{eq-eqb}
-use Rattle.fields.specs.Refusals.{Result, refused, good, need, after}
+use Rattle.fields.specs.Refusals.{Result, good, need, after}
 use Rattle.fields.specs.Model.{sizeOf, Sector, Disk, byteCount}
 use Rattle.fields.specs.declared.id.SectorId.{SectorId}
 use Rattle.fields.specs.declared.refusal.Refusal.{Refusal}
 use Rattle.fields.specs.declared.refusal.Refusal.the-variants.{NoRoom}
 use Rattle.fields.proofs.Sizes.{size-pos}
-use Rattle.store.specs.Find.{Found, nothing, found}
+use Rattle.store.specs.Find.{found}
 use Rattle.store.specs.Search.{sectorAt}
 use Rattle.disk.specs.Change.{withContent, saved}
 use Rattle.kinds.specs.declared.kind.Kind.the-variants.{SeekTo, WriteData}
 use Rattle.registers.specs.Boxes.{Setting, Slot, Holds, Inside, World, Finish, changed, allChanged, putIn}
-use Rattle.kinds.specs.Table.{kindOf, kindBy, rows, bytesFor}
+use Rattle.kinds.specs.Table.{kindOf, kindBy, rows}
 use Rattle.commands.specs.Commands.{driveOf, headOf, named, puts, seekIf, startAt, writeData, writeReply, saveAt, written, obeyed}
 use Rattle.saves.specs.Events.{Event, Played, play, sentIn}
 use Rattle.saves.specs.Words.{Ready, Address, Save, bytesOf, addressOf, IsSave, savedAt, savedBy}

@@ -1,22 +1,21 @@
 -- What the bytes sent in a run do inside: a command is obeyed once it is whole, a write is done once its sector is full, and port reads change nothing there.
 use mathlib.Core.Path.{_≡_, refl, sym, ap, _∙_}
-use Prim.Native.Nat.{ℕ, suc, _+_, _≤_, _<_}
+use Prim.Native.Nat.{ℕ, suc, _+_, _<_}
 use native.Mathlib.Omega.{arith}
-use mathlib.Core.Bool.{Bool, true, false}
+use mathlib.Core.Bool.{Bool}
 use mathlib.Core.List.{List, [], _∷_, _++_, append-nil}
-use mathlib.Core.Option.{Option, none, some}
+use mathlib.Core.Option.{none, some}
 use lib.ListN.{length, length-append}
 use lib.Seq.{append-snoc}
-use lib.Dec.{eqb}
 use borrow.Author.Tests.{eq-eqb, ne-eqb}
 use Rattle.fields.specs.Refusals.{Result, refused, good, after}
 use Rattle.fields.specs.Model.{sizeOf, Disk}
 use Rattle.fields.specs.declared.id.SectorId.{SectorId}
 use Rattle.kinds.specs.declared.kind.Kind.{Kind}
-use Rattle.registers.specs.Boxes.{Setting, Slot, Holds, Writing, Inside, World, Taking, Add, Hold, Effect, Sent, withCommand, withWrite, taken, changed, allChanged, putIn}
+use Rattle.registers.specs.Boxes.{Setting, Holds, Inside, World, Add, Hold, Effect, Sent, taken, changed, allChanged, putIn}
 use Rattle.kinds.specs.Table.{kindOf, bytesFor}
 use Rattle.registers.specs.Ports.{status, afterStatus, portByte, afterRead}
-use Rattle.commands.specs.Commands.{byte, does, obeyed, written}
+use Rattle.commands.specs.Commands.{byte, obeyed, written}
 use Rattle.sending.specs.Machine.{sends, clearing, commandIf, commandByte, dataIf, dataByte, byteFor, sent, done, writePort}
 use Rattle.saves.specs.Events.{Event, poll, read, send, Answer, showed, gave, took, Played, noting, play, sentIn}
 

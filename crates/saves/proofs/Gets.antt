@@ -1,5 +1,5 @@
 -- Demand 3, on the calls: what a host gets.
-use mathlib.Core.Path.{_≡_, refl, sym, ap, subst, _∙_}
+use mathlib.Core.Path.{_≡_, sym, ap, _∙_}
 use Prim.Native.Nat.{ℕ, _+_, _≤_}
 use native.Mathlib.Omega.{arith}
 use mathlib.Core.Bool.{Bool, true, false}
@@ -8,16 +8,16 @@ use lib.ListN.{length, take}
 use Rattle.fields.specs.Refusals.{Result, refused, good, after}
 use Rattle.fields.specs.Model.{Disk}
 use Rattle.store.specs.Store.{diskOf}
-use Rattle.registers.specs.Boxes.{Setting, Slot, Empty, Holds, World}
+use Rattle.registers.specs.Boxes.{Setting, Holds, World}
 use Rattle.registers.specs.View.{slotIf, insideOf}
 use Rattle.sending.specs.Machine.{writePort}
-use Rattle.saves.specs.Events.{Event, poll, read, send, Answer, took, Played, noting, play, sentIn}
+use Rattle.saves.specs.Events.{Event, send, took, Played, noting, play, sentIn}
 use Rattle.saves.specs.Words.{Ready, Save, bytesOf, addressOf, IsSave, savedBy, ReadsBack, readBytes, replyTo, LosesNone, dataReads, givenIn}
 use Rattle.saves.specs.Hosts.{Host, Called, calls, Sound, seen, lent}
 use Rattle.saves.proofs.Places.{Only}
 use Rattle.saves.proofs.Demand.{save-touches, still-other, second-alone, either-order}
 use Rattle.saves.proofs.ReadBack.{read-back}
-use Rattle.saves.proofs.Carried.{Fit, sound-fit, Ends, Runs, calls-play}
+use Rattle.saves.proofs.Carried.{sound-fit, Ends, Runs, calls-play}
 
 -- the disk that a host's store holds
 abbrev pub storeOf : Host → Result Disk

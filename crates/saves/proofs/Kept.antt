@@ -1,38 +1,38 @@
 -- What a byte sent keeps: the lengths of arrays and rooms, and unread data inside the transfer room.
-use mathlib.Core.Path.{_≡_, refl, sym, ap, subst, _∙_}
-use Prim.Native.Nat.{ℕ, _+_, _-_, _≤_, _<_, min}
+use mathlib.Core.Path.{_≡_, refl, ap, subst, _∙_}
+use Prim.Native.Nat.{ℕ, _+_, _-_, _≤_, min}
 use native.Mathlib.Omega.{arith}
 use mathlib.Core.Bool.{Bool, true, false}
 use mathlib.Core.List.{List, [], _∷_, _++_}
 use mathlib.Core.Option.{Option, none, some}
-use lib.ListN.{length, set, take, replicate, length-append, length-replicate, length-set}
+use lib.ListN.{length, replicate, length-append, length-replicate, length-set}
 use lib.Dec.{eqb, ltb, leb}
 use borrow.Author.Tests.{leb-true}
 use Rattle.buffer.specs.Over.{over}
 use Rattle.buffer.proofs.Overs.{over-length}
 use Rattle.fields.specs.Refusals.{Result, refused, good, need, after}
-use Rattle.fields.specs.Model.{sizeOf, Sector, Disk, byteCount}
+use Rattle.fields.specs.Model.{Sector, Disk, byteCount}
 use Rattle.fields.specs.declared.id.SectorId.{SectorId}
 use Rattle.fields.specs.declared.refusal.Refusal.the-variants.{NoRoom, NoTransferRoom}
 use Rattle.store.specs.Find.{Found, nothing, found}
 use Rattle.store.specs.Search.{sectorAt, sectorByIndex, readAt}
-use Rattle.store.specs.Store.{roomOf, transferRoom, contents, tableOf, dataOf, diskOf}
+use Rattle.store.specs.Store.{roomOf, transferRoom, contents, dataOf}
 use Rattle.store.specs.Fresh.{formatted}
 use Rattle.store.specs.Calls.{fitting}
 use Rattle.store.proofs.Rounds.{data-length}
 use Rattle.disk.specs.Change.{saved, setTrack}
-use Rattle.disk.proofs.Accepts.{Allowed, fitting-good}
+use Rattle.disk.proofs.Accepts.{fitting-good}
 use Rattle.kinds.specs.declared.kind.Kind.{Kind}
 use Rattle.kinds.specs.declared.kind.Kind.the-variants.{Specify, SenseDrive, Recalibrate, SenseInterrupt, SeekTo, Version, ReadData, ReadDeleted, WriteData, ReadId, FormatTrack, Unserved, Invalid}
 use Rattle.registers.specs.declared.regs.Regs.{Regs}
 use Rattle.registers.specs.declared.regs.Seek.{Seek}
 use Rattle.registers.specs.declared.regs.Seek.the-variants.{Idle, Running, Done}
-use Rattle.registers.specs.Boxes.{Setting, Slot, Empty, Holds, Inside, Writing, Taking, Add, Hold, Change, Clear, MoveTo, Turn, Start, Finish, Shift, Stay, Reply, ReplyIfNone, Seeking, Interrupt, Serve, Effect, Sent}
-use Rattle.kinds.specs.Table.{kindOf, bytesFor}
+use Rattle.registers.specs.Boxes.{Setting, Slot, Empty, Holds, Inside, Taking, Add, Hold, Change, Clear, MoveTo, Turn, Start, Finish, Shift, Stay, Reply, ReplyIfNone, Seeking, Interrupt, Serve, Effect, Sent}
 use Rattle.registers.specs.View.{settingOf}
 use Rattle.registers.specs.Settle.{replied, regsTaken, heldTaken, regsChanged, regsAll, ifUnread, interruptedBy, regsShifted}
-use Rattle.commands.specs.Commands.{byte, idOf, u, driveOf, headOf, inDrive, named, does, puts, seekIf, readReply, sizesOf, servedAs, readData, startAt, writeData, writeReply, saveAt, written, idAt, readId, formatTrack, obeyed}
-use Rattle.sending.specs.Machine.{sends, clearing, commandIf, commandByte, dataIf, dataByte, byteFor, sent}
+use Rattle.commands.specs.Commands.{byte, idOf, u, driveOf, headOf, named, does, puts, seekIf, readReply, sizesOf, servedAs, readData, startAt, writeData, writeReply, saveAt, written, idAt, readId, formatTrack, obeyed}
+use Rattle.sending.specs.Machine.{sent}
+use Rattle.sending.proofs.Every.{OfEffect, OfSent, of-sent}
 use Rattle.commands.specs.Lent.{dataWith, transferWith}
 
 -- ---- what an effect asks of the rooms
@@ -51,12 +51,10 @@ module _ (s : Setting) where
   RoomP (some y) = byteCount y ≤ s .room
 
   abbrev RoomE : Result Effect → Type 0
-  RoomE (refused why) = Unit {0}
-  RoomE (good e) = RoomS (e .shift) × RoomP (e .put)
+  RoomE = OfEffect (λ shift put. RoomS shift × RoomP put)
 
   abbrev pub Rooms : Result Sent → Type 0
-  Rooms (refused why) = Unit {0}
-  Rooms (good x) = RoomS (x .effect .shift) × RoomP (x .effect .put)
+  Rooms = OfSent (λ shift put. RoomS shift × RoomP put)
 
   seek-room : (f : Bool) (c : ℕ) → RoomE (seekIf f c)
   unfolding seekIf
@@ -147,37 +145,10 @@ module _ (s : Setting) where
   obeyed-room Unserved l c i slot = (tt, tt)
   obeyed-room Invalid l c i slot = (tt, tt)
 
-  clearing-room : (e : Result Effect) → RoomE e → RoomE (clearing e)
-  clearing-room (refused why) q = tt
-  clearing-room (good e) q = q
-
-  sends-room : (x : Taking) (e : Result Effect) → RoomE e → Rooms (sends x e)
-  sends-room x (refused why) q = tt
-  sends-room x (good e) q = q
-
-  command-room : (v : Bool) (k : Kind) (l : List ℕ) (cylinder index : ℕ) (slot : Slot) → RoomE (commandIf v s k l cylinder index slot)
-  unfolding commandIf
-  command-room true k l c i slot = clearing-room (obeyed s k l c i slot) (obeyed-room k l c i slot)
-  command-room false k l c i slot = (tt, tt)
-
-  data-room : (v : Bool) (unit : ℕ) (id : SectorId) (l : List ℕ) (cylinder : ℕ) (slot : Slot) → RoomE (dataIf v s unit id l cylinder slot)
-  unfolding dataIf
-  data-room true unit id l c slot = written-room unit id l c slot
-  data-room false unit id l c slot = (tt, tt)
-
-  byte-room : (i : Inside) (b : ℕ) (w : Option Writing) → Rooms (byteFor s i b w)
-  unfolding byteFor commandByte dataByte
-  byte-room i b none =
-      let l : List ℕ = i .command ++ (b ∷ []) in
-      let k : Kind = kindOf (byte l 0) in
-      sends-room (Add b) (commandIf (eqb (length l) (bytesFor k)) s k l (i .cylinder) (i .index) (i .slot)) (command-room (eqb (length l) (bytesFor k)) k l (i .cylinder) (i .index) (i .slot))
-  byte-room i b (some w) =
-      let l : List ℕ = w .held ++ (b ∷ []) in
-      sends-room (Hold b) (dataIf (eqb (length l) (sizeOf (w .id .n))) s (w .unit) (w .id) l (i .cylinder) (i .slot)) (data-room (eqb (length l) (sizeOf (w .id .n))) (w .unit) (w .id) l (i .cylinder) (i .slot))
-
   pub sent-room : (i : Inside) (b : ℕ) → Rooms (sent s i b)
-  unfolding sent
-  sent-room i b = byte-room i b (i .write)
+  sent-room i =
+      of-sent (λ shift put. RoomS shift × RoomP put) s i (tt, tt) (λ k l. obeyed-room k l (i .cylinder) (i .index) (i .slot))
+      (λ unit id l. written-room unit id l (i .cylinder) (i .slot))
 
 -- ---- arrays keep their lengths, and unread data their room
 

@@ -4,13 +4,13 @@ use Prim.Native.Nat.{ℕ}
 use native.Mathlib.Omega.{arith}
 use native.Mathlib.Decide.{ℕ-discrete}
 use mathlib.Core.Bool.{Bool, true, false, _&&_}
-use mathlib.Core.List.{List, [], _∷_, _++_}
+use mathlib.Core.List.{List, _∷_, _++_}
 use lib.Dec.{eqb}
 use borrow.Author.Tests.{eqb-true}
 use Rattle.fields.specs.Model.{Sector, Track, Disk}
 use Rattle.fields.specs.declared.id.SectorId.{SectorId}
 use Rattle.fields.proofs.Tests.{and-fst, and-snd}
-use Rattle.store.specs.Find.{Found, nothing, found, findFrom, find}
+use Rattle.store.specs.Find.{Found, nothing, found, find}
 use Rattle.store.specs.Search.{isTrack, isSector, inTrack, sectorAt}
 use Rattle.disk.specs.Change.{change, withContent, savedIn, saved}
 use Rattle.saves.specs.Words.{Address, savedAt}

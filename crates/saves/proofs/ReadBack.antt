@@ -1,31 +1,31 @@
 -- A Read Data after a save hands out its bytes, and then the reply.
 use mathlib.Core.Path.{_≡_, refl, sym, ap, _∙_}
-use Prim.Native.Nat.{ℕ, zero, suc, _+_, _-_, _%_, _≤_, _<_}
+use Prim.Native.Nat.{ℕ, suc, _+_, _-_, _%_, _≤_}
 use native.Mathlib.Omega.{arith}
 use mathlib.Core.Bool.{Bool, true, false}
 use mathlib.Core.List.{List, [], _∷_, _++_, append-nil}
 use mathlib.Core.Option.{none}
-use lib.ListN.{length, take, length-append}
-use lib.Dec.{eqb, leb}
+use lib.ListN.{length, take}
+use lib.Dec.{leb}
 use borrow.Author.Tests.{eq-eqb}
 use Rattle.fields.specs.Refusals.{Result, refused, good, need, after}
 use Rattle.fields.specs.Model.{sizeOf, total, Sector, Track, Disk}
 use Rattle.fields.specs.declared.id.SectorId.{SectorId}
 use Rattle.fields.specs.declared.refusal.Refusal.the-variants.{NoTransferRoom}
-use Rattle.store.specs.Find.{Found, nothing, found, findFrom, find}
-use Rattle.store.specs.Search.{isTrack, isSector, inTrack, sectorAt, joined, runFrom, readIn, readAt}
+use Rattle.store.specs.Find.{Found, nothing, found, find}
+use Rattle.store.specs.Search.{isTrack, inTrack, sectorAt, joined, runFrom, readIn, readAt}
 use Rattle.store.specs.Store.{contents}
 use Rattle.disk.specs.Change.{withContent}
 use Rattle.kinds.specs.declared.kind.Kind.the-variants.{ReadData}
-use Rattle.registers.specs.Boxes.{Setting, Holds, Inside, Front, World, Add, Clear, Serve, Effect, Sent, shifted}
-use Rattle.kinds.specs.Table.{kindOf, bytesFor}
-use Rattle.registers.specs.Ports.{some?, polled, Poll, Stays, Counts, Drops, afterStatus, sourceBy, given, readFrom, portByte, afterRead}
-use Rattle.commands.specs.Commands.{byte, u, driveOf, headOf, named, does, withBit, endOf, markOf, sizesOf, readReply, servedAs, readData, obeyed}
+use Rattle.registers.specs.Boxes.{Setting, Inside, Front, World, Add, Clear, Serve, Sent, shifted}
+use Rattle.kinds.specs.Table.{kindOf}
+use Rattle.registers.specs.Ports.{polled, Poll, Stays, Counts, Drops, afterStatus, given, readFrom, portByte, afterRead}
+use Rattle.commands.specs.Commands.{u, driveOf, headOf, does, withBit, endOf, markOf, sizesOf, readReply, servedAs, readData, obeyed}
 use Rattle.sending.specs.Machine.{sends, clearing, commandIf, commandByte, byteFor, sent, done, writePort}
-use Rattle.saves.specs.Events.{Event, poll, read, send, Answer, showed, gave, took, Played, noting, play, sentIn}
-use Rattle.saves.specs.Words.{Ready, Save, bytesOf, addressOf, IsSave, savedAt, savedBy, ReadsBack, readBytes, replyTo, LosesNone, dataReads, givenIn}
+use Rattle.saves.specs.Events.{Event, poll, read, send, Answer, Played, noting, play, sentIn}
+use Rattle.saves.specs.Words.{Ready, Save, bytesOf, addressOf, IsSave, savedBy, ReadsBack, readBytes, replyTo, LosesNone, dataReads, givenIn}
 use Rattle.saves.proofs.Finds.{mapFound}
-use Rattle.saves.proofs.Places.{at, save-found, save-only}
+use Rattle.saves.proofs.Places.{save-found, save-only}
 use Rattle.saves.proofs.Feeding.{fed, insides, play-inside, partly, part-fed}
 use Rattle.saves.proofs.Demand.{saved-inside}
 

@@ -1,12 +1,12 @@
 -- The theorems used: two saves to a fresh disk, and a Read Data of the first, none of them refused. The same bytes are sent in the sessions `example-save-..` of `crates/ports`.
-use mathlib.Core.Path.{_≡_, refl, sym, ap, subst, _∙_}
+use mathlib.Core.Path.{_≡_, refl, sym, ap, subst}
 use Prim.Native.Nat.{ℕ, zero, suc, _+_, _≤_, min}
 use native.Mathlib.Omega.{arith}
 use mathlib.Core.Bool.{Bool, true, false}
 use mathlib.Core.List.{List, [], _∷_, _++_}
 use lib.ListN.{length, take, replicate, length-replicate}
 use Rattle.fields.specs.Refusals.{Result, refused, good}
-use Rattle.fields.specs.Model.{sizeOf, total, Disk, sectorCount, byteCount}
+use Rattle.fields.specs.Model.{sizeOf, total, sectorCount, byteCount}
 use Rattle.store.specs.Find.{findFrom}
 use Rattle.buffer.specs.Over.{over}
 use Rattle.store.specs.Search.{sectorAt, runFrom, readAt}

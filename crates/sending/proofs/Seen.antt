@@ -31,7 +31,7 @@ use Rattle.registers.specs.declared.regs.Regs.{Regs}
 use Rattle.registers.specs.declared.regs.Pending.{Pending}
 use Rattle.registers.specs.declared.regs.Seek.{Seek}
 use Rattle.registers.specs.declared.regs.Seek.the-variants.{Idle, Running, Done}
-use Rattle.registers.specs.Boxes.{Slot, Holds, Writing, Inside, World, Taking, Add, Hold, Change, Clear, MoveTo, Turn, Start, Finish, Shift, Stay, Reply, ReplyIfNone, Seeking, Interrupt, Serve, Effect, Sent, withCommand, withWrite, withSlot, holding, taken, changed, allChanged, putIn, withReply, ifNone, interrupted, shifted}
+use Rattle.registers.specs.Boxes.{Setting, Slot, Holds, Writing, Inside, World, Taking, Add, Hold, Change, Clear, MoveTo, Turn, Start, Finish, Shift, Stay, Reply, ReplyIfNone, Seeking, Interrupt, Serve, Effect, Sent, withCommand, withWrite, withSlot, holding, taken, changed, allChanged, putIn, withReply, ifNone, interrupted, shifted}
 use Rattle.kinds.specs.Table.{kindOf, bytesFor}
 use Rattle.registers.specs.View.{settingOf, slotIf, slotOf, writingIf, insideOf, frontOf, worldOf, impossible, impossibleIn}
 use Rattle.registers.specs.declared.regs.Flag.the-variants as flag
@@ -39,11 +39,12 @@ use Rattle.registers.specs.Calls.{diskIn}
 use Rattle.registers.specs.Settle.{replied, regsTaken, heldTaken, regsChanged, regsAll, ifUnread, interruptedBy, regsShifted, regsOf}
 use Rattle.registers.proofs.Numbers.{possible, possible-in, count-few, taken-few}
 use Rattle.commands.specs.Commands.{byte, idOf, driveOf, headOf, ready, inDrive, named, puts, seekIf, readData, writeData, readId, saveAt, written, formatTrack, obeyed, writeReply, u}
-use Rattle.sending.specs.Machine.{sends, clearing, commandIf, commandByte, dataIf, dataByte, sent, done, writePort}
+use Rattle.sending.specs.Machine.{sends, commandIf, commandByte, dataIf, dataByte, sent, done, writePort}
 use Rattle.commands.specs.Lent.{tableWith, dataWith, transferWith, Left, left, leftOf}
 use Rattle.sending.specs.Calls.{sentTo, dataWrite}
 use Rattle.commands.proofs.Runs.{Unput, quiet-seek, quiet-id, quiet-write, unput-read}
 use Rattle.sending.proofs.Sends.{sent-right, sent-data, sent-command}
+use Rattle.sending.proofs.Every.{OfEffect, OfSent, of-sent}
 
 -- ---- inside: taking a byte, and changes
 
@@ -187,12 +188,10 @@ module _ (r : Regs) (t d : List ℕ) where
   Lays (some y) = (r .drive .disk ≡ true) × (diskOf (over t 0 (tableOf y)) (over d 0 (dataOf y)) ≡ good y)
 
   abbrev LaysE : Result Effect → Type 0
-  LaysE (refused why) = Unit {0}
-  LaysE (good e) = Lays (e .put)
+  LaysE = OfEffect (λ shift put. Lays put)
 
   abbrev LaysS : Result Sent → Type 0
-  LaysS (refused why) = Unit {0}
-  LaysS (good s) = Lays (s .effect .put)
+  LaysS = OfSent (λ shift put. Lays put)
 
   seen-slot : (put : Option Disk) (i : Inside) (f : Bool) → Lays put → f ≡ r .drive .disk → i .slot ≡ slotOf r t d
       → putIn put i ≡ withSlot (slotIf f (diskOf (tableWith put t) (dataWith put d))) i
@@ -254,23 +253,11 @@ module _ (r : Regs) (t d : List ℕ) where
   obeyed-lays x Unserved l c i = tt
   obeyed-lays x Invalid l c i = tt
 
-  clearing-lays : (e : Result Effect) → LaysE e → LaysE (clearing e)
-  clearing-lays (refused why) q = tt
-  clearing-lays (good e) q = q
-
-  sends-lays : (x : Taking) (e : Result Effect) → LaysE e → LaysS (sends x e)
-  sends-lays x (refused why) q = tt
-  sends-lays x (good e) q = q
-
-  command-lays : (v : Bool) (x : List ℕ) (k : Kind) (l : List ℕ) (cylinder index : ℕ) → LaysE (commandIf v (settingOf d x) k l cylinder index (slotOf r t d))
-  unfolding commandIf
-  command-lays true x k l c i = clearing-lays (obeyed (settingOf d x) k l c i (slotOf r t d)) (obeyed-lays x k l c i)
-  command-lays false x k l c i = tt
-
-  data-lays : (v : Bool) (x : List ℕ) (unit : ℕ) (id : SectorId) (l : List ℕ) (cylinder : ℕ) → LaysE (dataIf v (settingOf d x) unit id l cylinder (slotOf r t d))
-  unfolding dataIf
-  data-lays true x unit id l c = written-lays (r .drive .disk) (diskOf t d) unit id l c refl refl
-  data-lays false x unit id l c = tt
+  sent-lays : (x h : List ℕ) (b : ℕ) → LaysS (sent (settingOf d x) (insideOf r h (slotOf r t d)) b)
+  unfolding insideOf
+  sent-lays x h =
+      of-sent (λ shift put. Lays put) (settingOf d x) (insideOf r h (slotOf r t d)) tt (λ k l. obeyed-lays x k l (r .drive .cylinder) (r .index))
+      (λ unit id l. written-lays (r .drive .disk) (diskOf t d) unit id l (r .drive .cylinder) refl refl)
 
 -- ---- a whole byte
 
@@ -282,6 +269,14 @@ Takes k (good s) = s .taking ≡ k
 sends-takes : (k : Taking) (e : Result Effect) → Takes k (sends k e)
 sends-takes k (refused why) = tt
 sends-takes k (good e) = refl
+
+command-takes : (s : Setting) (b : ℕ) (l : List ℕ) (c i : ℕ) (slot : Slot) → Takes (Add b) (commandByte s b l c i slot)
+unfolding commandByte
+command-takes s b l c i slot = sends-takes (Add b) (commandIf (eqb (length l) (bytesFor (kindOf (byte l 0)))) s (kindOf (byte l 0)) l c i slot)
+
+data-takes : (s : Setting) (b unit : ℕ) (id : SectorId) (l : List ℕ) (c : ℕ) (slot : Slot) → Takes (Hold b) (dataByte s b unit id l c slot)
+unfolding dataByte
+data-takes s b unit id l c slot = sends-takes (Hold b) (dataIf (eqb (length l) (sizeOf (id .n))) s unit id l c slot)
 
 module _ (r : Regs) (b : ℕ) (h t d x : List ℕ) (ok : impossibleIn x r ≡ false) (nine : length (r .command) ≡ 9) (seven : length (r .reply) ≡ 7) (held : length h ≡ 1024) where
   -- what a byte leaves, seen: a refusal, with every byte as it came; or the boxes then
@@ -312,22 +307,13 @@ module _ (r : Regs) (b : ℕ) (h t d x : List ℕ) (ok : impossibleIn x r ≡ fa
       (refl, λ n. record { inside = (j ∙ sym m ∙ ap (putIn (s .effect .put)) i) n; front = f n })
 
   seen-sent : (f : Bool) → r .write .on ≡ f → Sees (leftOf (sent (settingOf d x) (insideOf r h (slotOf r t d)) b) r h t d x) (writePort (settingOf d x) (worldOf r h t d x) b)
-  unfolding writePort dataByte commandByte
+  unfolding writePort
   seen-sent true e =
       let g : r .write .taken < length h = omega (arith, taken-few (r .write) (possible r (possible-in x r ok) .write-in) e, size-most (r .write .id .n)) in
-      let l : List ℕ = take (r .write .taken) h ++ (b ∷ []) in
-      let y : Result Effect = dataIf (eqb (length l) (sizeOf (r .write .id .n))) (settingOf d x) (r .write .c1) (r .write .id) l (r .drive .cylinder) (slotOf r t d) in
-      subst (λ (z : Result Sent). Sees (leftOf z r h t d x) (after z (λ s. good (done (worldOf r h t d x) s)))) (sent-data r b h t d x e)
-      (seen-byte (sends (Hold b) y) (Hold b) g (sends-takes (Hold b) y)
-      (sends-lays r t d (Hold b) y (data-lays r t d (eqb (length l) (sizeOf (r .write .id .n))) x (r .write .c1) (r .write .id) l (r .drive .cylinder))))
+      seen-byte (sent (settingOf d x) (insideOf r h (slotOf r t d)) b) (Hold b) g (subst (Takes (Hold b)) (sent-data r b h t d x e) (data-takes _ b _ _ _ _ _)) (sent-lays r t d x h b)
   seen-sent false e =
       let g : r .count < length (r .command) = omega (arith, count-few r (possible-in x r ok)) in
-      let l : List ℕ = take (r .count) (r .command) ++ (b ∷ []) in
-      let k : Kind = kindOf (byte l 0) in
-      let y : Result Effect = commandIf (eqb (length l) (bytesFor k)) (settingOf d x) k l (r .drive .cylinder) (r .index) (slotOf r t d) in
-      subst (λ (z : Result Sent). Sees (leftOf z r h t d x) (after z (λ s. good (done (worldOf r h t d x) s)))) (sent-command r b h t d x e)
-      (seen-byte (sends (Add b) y) (Add b) g (sends-takes (Add b) y)
-      (sends-lays r t d (Add b) y (command-lays r t d (eqb (length l) (bytesFor k)) x k l (r .drive .cylinder) (r .index))))
+      seen-byte (sent (settingOf d x) (insideOf r h (slotOf r t d)) b) (Add b) g (subst (Takes (Add b)) (sent-command r b h t d x e) (command-takes _ b _ _ _ _)) (sent-lays r t d x h b)
 
   -- a byte sent leaves what the machine's step says of the boxes seen
   pub write-seen : Sees (dataWrite r b h t d x) (writePort (settingOf d x) (worldOf r h t d x) b)

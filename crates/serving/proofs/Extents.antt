@@ -1,10 +1,9 @@
 -- Reading: how far a read goes, and what it lays in the transfer buffer.
 use mathlib.Core.Path.{_≡_, refl, sym, ap, _∙_}
-use Prim.Native.Nat.{ℕ, zero, suc, _+_, _-_, _*_, _≤_, _<_, min}
+use Prim.Native.Nat.{ℕ, zero, suc, _+_, _-_, _*_, _≤_, _<_}
 use native.Mathlib.Omega.{arith}
-use mathlib.Core.List.{List, [], _∷_, _++_}
-use mathlib.Core.Bool.{Bool, true, false, cond}
-use lib.ListN.{length, take, drop}
+use mathlib.Core.List.{List}
+use mathlib.Core.Bool.{true, false, cond}
 use Rattle.tracks.specs.Block.{rowAt}
 use Rattle.fields.specs.declared.id.SectorId.{SectorId}
 use Rattle.tracks.proofs.Tracks.{down}

@@ -1,21 +1,20 @@
 -- Gathering sectors into a transfer buffer.
 use mathlib.Core.Path.{_≡_, refl, sym, ap, _∙_}
-use Prim.Native.Nat.{ℕ, zero, suc, _+_, _-_, _*_, _≤_, _<_, min}
+use Prim.Native.Nat.{ℕ, suc, _+_, _-_, _≤_, _<_}
 use native.Mathlib.Omega.{arith}
-use mathlib.Core.List.{List, [], _∷_, _++_, append-nil}
-use mathlib.Core.Bool.{Bool, true, false, cond}
-use lib.ListN.{length, take, drop, length-append, length-take, length-drop}
+use mathlib.Core.List.{List, [], _++_, append-nil}
+use lib.ListN.{length, take, drop, length-append, length-drop}
 use lib.Seq.{take-all, drop-drop, drop-length}
 use borrow.Rule.Slice.PartMut.{putMid}
 use Rattle.buffer.specs.Over.{over}
-use Rattle.buffer.proofs.Overs.{over-over, over-nil, over-length}
-use Rattle.fields.specs.Model.{sizeOf, Sector, total}
+use Rattle.buffer.proofs.Overs.{over-length}
+use Rattle.fields.specs.Model.{Sector}
 use Rattle.tracks.specs.Block.{rowAt, sectorOf}
 use Rattle.fields.specs.declared.id.SectorId.{SectorId}
 use Rattle.tracks.proofs.Tracks.{down, whole-part}
-use Rattle.store.specs.Find.{Found, nothing, found, find}
+use Rattle.store.specs.Find.{find}
 use Rattle.store.specs.Search.{isSector, numbered, joined, runFrom}
-use Rattle.store.specs.Store.{contents, sectorsAt, sumAt}
+use Rattle.store.specs.Store.{contents, sectorsAt}
 use Rattle.store.specs.Spots.{sectorSpot}
 use Rattle.serving.specs.Runs.{runOf, Rows, Gathered}
 use Rattle.store.specs.declared.find.Spot.{Spot}

@@ -1,6 +1,6 @@
 -- What a read serves: the extent by place is that of the model's run, and the answers follow.
 use mathlib.Core.Path.{_≡_, refl, sym, ap, _∙_}
-use Prim.Native.Nat.{ℕ, zero, suc, _+_, _-_, _*_, _≤_, _<_, min, max}
+use Prim.Native.Nat.{ℕ, zero, suc, _+_, _-_, _*_, _≤_, _<_, max}
 use native.Mathlib.Omega.{arith}
 use native.Mathlib.Nat.{suc-mul, mul-le-mul}
 use mathlib.Core.List.{List, [], _∷_, _++_}
@@ -9,8 +9,7 @@ use lib.ListN.{length, take, drop, length-append}
 use lib.Dec.{eqb, leb}
 use borrow.Author.Tests.{eqb-true, le-leb, lt-leb}
 use Rattle.buffer.specs.Over.{over}
-use Rattle.fields.specs.Refusals.{Result, refused, good}
-use Rattle.fields.specs.Model.{sizeOf, Sector, Track, Disk, total}
+use Rattle.fields.specs.Model.{sizeOf, Sector, Track, total}
 use Rattle.fields.specs.Bytes.{byteAt}
 use Rattle.tracks.specs.Block.{rowAt, sectorOf}
 use Rattle.fields.specs.declared.id.SectorId.{SectorId}
@@ -19,8 +18,8 @@ use Rattle.tracks.specs.declared.track.Row.{Row}
 use Rattle.fields.proofs.Sizes.{size-most}
 use Rattle.store.specs.Find.{Found, nothing, found, findFrom, find}
 use Rattle.store.specs.Search.{isSector, isTrack, numbered, joined, runFrom, readIn, readAt}
-use Rattle.store.specs.Store.{transferRoom, contents, sectorsAt, sumAt, countAt, tracksAt, trackAt, diskOf, roomOf, wellLaid, tableLength}
-use Rattle.store.specs.Spots.{rowHere, sectorSpot, trackSpot, Walkable}
+use Rattle.store.specs.Store.{transferRoom, contents, sectorsAt, sumAt, countAt, tracksAt, roomOf, wellLaid}
+use Rattle.store.specs.Spots.{rowHere, sectorSpot, trackSpot}
 use Rattle.disk.specs.Calls.{filled, readingOf, filledOf, readOf}
 use Rattle.serving.specs.Runs.{rowFirst, more, extentFrom, runOf, Rows, Gathered}
 use Rattle.store.specs.declared.find.Spot.{Spot}
@@ -28,7 +27,7 @@ use Rattle.store.specs.declared.find.Spot.the-variants.{Nothing, At}
 use Rattle.serving.specs.declared.serve.Extent.{Extent}
 use Rattle.disk.specs.declared.answer.Reading.{Reading}
 use Rattle.disk.specs.declared.answer.Reading.the-variants as reading
-use Rattle.store.proofs.Founds.{rowAtSpot, trackAtSpot, find-row, find-track, row-in, track-in, track-rows}
+use Rattle.store.proofs.Founds.{rowAtSpot, trackAtSpot, find-row, find-track, track-in, track-rows}
 use Rattle.store.proofs.Checks.{kept, walkable, disk-bad, disk-good}
 use Rattle.serving.proofs.Gathers.{bytes-whole}
 

@@ -1,7 +1,7 @@
 -- What the private calls of a read answer, by place. A reader of the promises need not read this page.
 use Prim.Native.Nat.{ℕ, zero, suc, _+_, _*_, _≤_, _<_}
 use mathlib.Core.List.{List}
-use mathlib.Core.Bool.{Bool, cond}
+use mathlib.Core.Bool.{cond}
 use Rattle.tracks.specs.Block.{rowAt}
 use Rattle.fields.specs.declared.id.SectorId.{SectorId}
 use Rattle.store.specs.Find.{Found, nothing, found}

@@ -7,7 +7,7 @@ use lib.Dec.{eqb, leb}
 use Rattle.buffer.specs.Over.{over}
 use Rattle.fields.specs.Refusals.{Result, refused, good, need, after}
 use Rattle.fields.specs.Model.{Sector, Disk, sectorCount, byteCount}
-use Rattle.image.specs.Dsk.{Dsk, dskOf}
+use Rattle.image.specs.Dsk.{dskOf}
 use Rattle.fields.specs.declared.id.SectorId.{SectorId}
 use Rattle.fields.specs.declared.refusal.Refusal.{Refusal}
 use Rattle.fields.specs.declared.refusal.Refusal.the-variants.{BadStore, TooManyTracks, TooManySectors, NoRoom}

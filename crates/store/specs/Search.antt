@@ -1,7 +1,7 @@
 -- What 01 says of disks: the searches and the geometry ("Modules in port order", 3).
 use Prim.Native.Nat.{ℕ, zero, suc, _+_, _-_, _%_, max}
 use mathlib.Core.List.{List, [], _∷_}
-use mathlib.Core.Bool.{Bool, cond, not, _&&_}
+use mathlib.Core.Bool.{Bool, cond, _&&_}
 use lib.ListN.{length}
 use lib.Dec.{eqb}
 use Rattle.fields.specs.declared.id.SectorId.{SectorId}

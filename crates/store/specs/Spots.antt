@@ -10,7 +10,6 @@ use Rattle.fields.specs.Bytes.{byteAt}
 use Rattle.fields.specs.Model.{Sector, Disk}
 use Rattle.tracks.specs.Block.{rowAt, sectorOf}
 use Rattle.fields.specs.declared.id.SectorId.{SectorId}
-use Rattle.fields.specs.declared.refusal.Refusal.{Refusal}
 use Rattle.store.specs.Find.{Found, nothing, found}
 use Rattle.store.specs.Search.{sectorAt}
 use Rattle.store.specs.Store.{tableLength, roomOf, countAt, nextAt, trackSum, countsAt, bytesAt, wellLaid, diskOf}

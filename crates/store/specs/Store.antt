@@ -10,7 +10,7 @@ use lib.ListN.{length, drop}
 use lib.Dec.{eqb, leb}
 use Rattle.fields.specs.Refusals.{Result, good, need}
 use Rattle.fields.specs.Bytes.{byteAt}
-use Rattle.fields.specs.Model.{Sector, Track, Disk, sectorCount, byteCount}
+use Rattle.fields.specs.Model.{Sector, Track, Disk}
 use Rattle.tracks.specs.Block.{rowAt, sectorOf}
 use Rattle.fields.specs.declared.refusal.Refusal.the-variants.{BadStore}
 

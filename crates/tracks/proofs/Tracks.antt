@@ -1,8 +1,8 @@
 -- What a track block holds: the sums of its sector list, and that its data are whole.
-use mathlib.Core.Path.{_≡_, refl, ap}
+use mathlib.Core.Path.{_≡_, refl, sym, ap, _∙_}
 use Prim.Native.Nat.{ℕ, zero, suc, _+_, _-_, _*_, _≤_, _<_}
 use native.Mathlib.Omega.{arith}
-use mathlib.Core.List.{List}
+use mathlib.Core.List.{List, [], _∷_}
 use mathlib.Core.Bool.{Bool, true, false}
 use lib.ListN.{length, take, drop, length-take, length-drop}
 use lib.Dec.{leb}
@@ -10,8 +10,7 @@ use borrow.Author.Tests.{lt-leb, le-leb, leb-true}
 use Rattle.fields.specs.Refusals.{Result, good, need, after}
 use Rattle.fields.specs.Bytes.{byteAt, textAt, stringOf}
 use Rattle.fields.specs.Model.{Sector, Track, total, trackBytes}
-use Rattle.tracks.specs.Block.{rowPlace, rowOf, sectorsFrom, storedFrom, dataEnd, trackIn, trackText, bodyOf, trackOf}
-use Rattle.tracks.specs.Block.{headOf, blockOf}
+use Rattle.tracks.specs.Block.{rowPlace, rowOf, sectorOf, sectorsFrom, storedFrom, dataEnd, trackIn, trackText, bodyOf, trackOf, headOf, blockOf}
 use Rattle.fields.specs.declared.refusal.Refusal.{Refusal}
 use Rattle.fields.specs.declared.refusal.Refusal.the-variants.{ShortImage, NotATrack}
 use Rattle.fields.specs.declared.read.Text.the-variants as text
@@ -69,18 +68,28 @@ pub whole-part : (b : List ℕ) (place n : ℕ) → (0 < n → place + n ≤ len
 whole-part b place zero h = simp length-take (omega arith)
 whole-part b place (suc n) h = let l : place + suc n ≤ length b = h (omega arith) in simp (length-take, length-drop) (omega arith)
 
--- data that end inside are as long as the sector list says
-pub contents-whole : (kind : Kind) (b : List ℕ) (k place left : ℕ)
-    → (0 < storedFrom kind b k left → place + storedFrom kind b k left ≤ length b)
-    → total (λ (s : Sector). length (s .content)) (sectorsFrom kind b k place left) ≡ storedFrom kind b k left
-unfolding sectorsFrom storedFrom total
-contents-whole kind b k place zero h = refl
-contents-whole kind b k place (suc left) h =
+-- what holds of a sector list entry by entry holds of its sectors, where their data end inside: each is then as long as its entry says
+pub by-entries : (kind : Kind) (b : List ℕ) (P : ℕ → ℕ → List Sector → Type 0)
+    → ((k : ℕ) → P k 0 [])
+    → ((k place left : ℕ) (ss : List Sector) → length (take (rowOf kind b k .stored) (drop place b)) ≡ rowOf kind b k .stored → P (k + 1) left ss
+    → P k (suc left) (sectorOf (rowOf kind b k) (drop place b) ∷ ss))
+    → (k place left : ℕ) → (0 < storedFrom kind b k left → place + storedFrom kind b k left ≤ length b) → P k left (sectorsFrom kind b k place left)
+unfolding sectorsFrom storedFrom
+by-entries kind b P none one k place zero h = none k
+by-entries kind b P none one k place (suc left) h =
     let n : ℕ = rowOf kind b k .stored in
     let m : ℕ = storedFrom kind b (k + 1) left in
     let here : 0 < n → place + n ≤ length b = λ p. omega (arith, h (omega arith)) in
     let after : 0 < m → place + n + m ≤ length b = λ p. omega (arith, h (omega arith)) in
-    λ i. _+_ (whole-part b place n here i) (contents-whole kind b (k + 1) (place + n) left after i)
+    one k place left (sectorsFrom kind b (k + 1) (place + n) left) (whole-part b place n here) (by-entries kind b P none one (k + 1) (place + n) left after)
+
+-- data that end inside are as long as the sector list says
+pub contents-whole : (kind : Kind) (b : List ℕ) (k place left : ℕ)
+    → (0 < storedFrom kind b k left → place + storedFrom kind b k left ≤ length b)
+    → total (λ (s : Sector). length (s .content)) (sectorsFrom kind b k place left) ≡ storedFrom kind b k left
+unfolding storedFrom total
+contents-whole kind b =
+    by-entries kind b (λ k left ss. total (λ (s : Sector). length (s .content)) ss ≡ storedFrom kind b k left) (λ k. refl) (λ k place left ss e f i. _+_ (e i) (f i))
 
 -- where data end
 pub data-end-some : (n : ℕ) → (n ≡ 0 → ⊥) → 0x100 + n ≡ dataEnd n
@@ -164,3 +173,8 @@ track-good kind b t e =
     let w = need-good (leb (dataEnd (storedFrom kind b 0 (byteAt b 0x15))) (length b)) ShortImage (good (trackIn kind b)) t (z .1) in
     let v : good (trackIn kind b) ≡ good t = w .1 in
     (cc, data-inside (storedFrom kind b 0 (byteAt b 0x15)) b (leb-true _ _ (w .0)))
+
+-- and has as many sectors as its header says
+pub track-count : (kind : Kind) (b : List ℕ) (t : Track) → trackOf kind b ≡ good t → length (t .sectors) ≡ byteAt b 0x15
+unfolding trackIn
+track-count kind b t e = ap (λ (x : Track). length (x .sectors)) (sym (track-good kind b t e .0)) ∙ sectors-length kind b 0 0x100 (byteAt b 0x15)

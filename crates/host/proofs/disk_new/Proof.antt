@@ -1,7 +1,7 @@
 use Rattle.host.specs.Calls.{worded}
 use Rattle.store.specs.Calls.{outcome}
 use Prim.Native.Nat.{ℕ}
-use mathlib.Core.Path.{_≡_, refl, sym, ap, _∙_}
+use mathlib.Core.Path.{ap, _∙_}
 use borrow.Author.Needs.{needs}
 use Rattle.host.proofs.disk_new.Statement.{statement}
 use Rattle.host.proofs.disk_new.Tie as tie

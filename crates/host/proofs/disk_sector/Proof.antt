@@ -1,7 +1,5 @@
 use native.Mathlib.Omega.{arith}
-use Rattle.store.specs.declared.find.Place.the-variants as place
 use Rattle.host.proofs.Answers.{part-word, part-ends, part-few, part-is}
-use mathlib.Core.Path.{_≡_, refl, sym, ap, _∙_}
 use borrow.Author.Needs.{needs}
 use Rattle.host.proofs.disk_sector.Statement.{statement}
 use Rattle.host.proofs.disk_sector.Tie as tie

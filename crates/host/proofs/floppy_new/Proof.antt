@@ -1,5 +1,4 @@
 use Rattle.host.proofs.Answers.{new-bad, new-good}
-use mathlib.Core.Path.{_≡_, refl, sym, ap, _∙_}
 use borrow.Author.Needs.{needs}
 use Rattle.host.proofs.floppy_new.Statement.{statement}
 use Rattle.host.proofs.floppy_new.Tie as tie

@@ -1,8 +1,8 @@
 use Rattle.host.proofs.Answers.{here-long, answered-bad, answered-good}
 use Rattle.registers.specs.Calls.{dataRead}
 use Rattle.registers.specs.declared.regs.Told.{Told}
-use Rattle.host.specs.Calls.{answered, toldOn, readOn}
-use mathlib.Core.Path.{_≡_, refl, sym, ap, _∙_}
+use Rattle.host.specs.Calls.{toldOn, readOn}
+use mathlib.Core.Path.{ap, _∙_}
 use borrow.Author.Needs.{needs}
 use Rattle.host.proofs.floppy_read_cmd.Statement.{statement}
 use Rattle.host.proofs.floppy_read_cmd.Tie as tie

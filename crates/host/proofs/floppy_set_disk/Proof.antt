@@ -3,8 +3,8 @@ use mathlib.Core.Bool.{not}
 use Rattle.host.proofs.Answers.{here-long, answered-bad, answered-good}
 use Rattle.registers.specs.Calls.{diskSet}
 use Rattle.registers.specs.declared.regs.Written.{Written}
-use Rattle.host.specs.Calls.{answered, writtenOn, setDiskOn}
-use mathlib.Core.Path.{_≡_, refl, sym, ap, _∙_}
+use Rattle.host.specs.Calls.{writtenOn, setDiskOn}
+use mathlib.Core.Path.{ap, _∙_}
 use borrow.Author.Needs.{needs}
 use Rattle.host.proofs.floppy_set_disk.Statement.{statement}
 use Rattle.host.proofs.floppy_set_disk.Tie as tie

@@ -3,8 +3,8 @@ use mathlib.Core.Bool.{not}
 use Rattle.host.proofs.Answers.{here-long, answered-bad, answered-good}
 use Rattle.registers.specs.Calls.{motorSet}
 use Rattle.registers.specs.declared.regs.Written.{Written}
-use Rattle.host.specs.Calls.{answered, writtenOn, setMotorOn}
-use mathlib.Core.Path.{_≡_, refl, sym, ap, _∙_}
+use Rattle.host.specs.Calls.{writtenOn, setMotorOn}
+use mathlib.Core.Path.{ap, _∙_}
 use borrow.Author.Needs.{needs}
 use Rattle.host.proofs.floppy_set_motor.Statement.{statement}
 use Rattle.host.proofs.floppy_set_motor.Tie as tie

@@ -1,9 +1,6 @@
-use Rattle.host.proofs.Answers.{put-long}
-use Rattle.host.proofs.Answers.{mid-long}
-use Rattle.host.proofs.Answers.{here-long, sent-bad, sent-good}
+use Rattle.host.proofs.Answers.{put-long, mid-long, here-long, sent-bad, sent-good}
 use native.Mathlib.Omega.{arith}
 use Prim.Native.Nat.{_-_}
-use mathlib.Core.Path.{_≡_, refl, sym, ap, _∙_}
 use borrow.Author.Needs.{needs}
 use Rattle.host.proofs.floppy_write_cmd.Statement.{statement}
 use Rattle.host.proofs.floppy_write_cmd.Tie as tie

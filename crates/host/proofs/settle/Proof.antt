@@ -1,7 +1,7 @@
 use Prim.Native.Nat.{ℕ}
 use Rattle.host.specs.Calls.{answered, writtenAs}
 use Rattle.store.specs.declared.answer.Done.{Done}
-use mathlib.Core.Path.{_≡_, refl, sym, ap, _∙_}
+use mathlib.Core.Path.{sym, ap, _∙_}
 use borrow.Author.Needs.{needs}
 use Rattle.host.proofs.settle.Statement.{statement}
 use Rattle.host.proofs.settle.Tie as tie

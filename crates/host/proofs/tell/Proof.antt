@@ -1,7 +1,7 @@
 use Prim.Native.Nat.{ℕ}
 use Rattle.host.specs.Calls.{answered, toldAs}
 use Rattle.registers.specs.declared.regs.Byte.{Byte}
-use mathlib.Core.Path.{_≡_, refl, sym, ap, _∙_}
+use mathlib.Core.Path.{sym, ap, _∙_}
 use borrow.Author.Needs.{needs}
 use Rattle.host.proofs.tell.Statement.{statement}
 use Rattle.host.proofs.tell.Tie as tie

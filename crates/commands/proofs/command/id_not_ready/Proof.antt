@@ -1,5 +1,5 @@
-use mathlib.Core.Path.{_≡_, refl, sym, ap, _∙_}
-use borrow.Author.Tests.{eq-eqb, ne-eqb, lt-ltb, le-ltb, le-leb, lt-leb, not-true, not-false}
+use mathlib.Core.Path.{_∙_}
+use borrow.Author.Tests.{lt-ltb, le-ltb}
 use Rattle.registers.specs.Settle.{regsShifted, ifUnread}
 use borrow.Author.Needs.{needs}
 use Rattle.commands.proofs.command.id_not_ready.Statement.{statement}

@@ -1,5 +1,4 @@
-use mathlib.Core.Path.{_≡_, refl, sym, ap, _∙_}
-use borrow.Author.Tests.{eq-eqb, ne-eqb, lt-ltb, le-ltb, le-leb, lt-leb, not-true, not-false}
+use borrow.Author.Tests.{eq-eqb, ne-eqb, not-true, not-false}
 use Rattle.commands.specs.Commands.{markOf, flipBit}
 use borrow.Author.Needs.{needs}
 use Rattle.commands.proofs.command.mark_st2.Statement.{statement}

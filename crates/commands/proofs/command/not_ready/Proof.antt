@@ -1,4 +1,4 @@
-use mathlib.Core.Path.{_≡_, refl, sym, ap, _∙_}
+use mathlib.Core.Path.{_∙_}
 use borrow.Author.Needs.{needs}
 use Rattle.commands.proofs.command.not_ready.Statement.{statement}
 use Rattle.commands.proofs.command.not_ready.Tie as tie

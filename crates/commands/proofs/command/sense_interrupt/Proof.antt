@@ -1,4 +1,4 @@
-use mathlib.Core.Path.{_≡_, refl, sym, ap, _∙_}
+use mathlib.Core.Path.{sym, ap, _∙_}
 use Rattle.registers.specs.Settle.{regsShifted, interruptedBy}
 use Rattle.registers.specs.declared.regs.Seek.{Seek}
 use Rattle.registers.specs.declared.regs.Written.{Written}

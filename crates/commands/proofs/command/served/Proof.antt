@@ -1,4 +1,4 @@
-use mathlib.Core.Path.{_≡_, refl, sym, ap, _∙_}
+use mathlib.Core.Path.{_∙_}
 use Rattle.commands.specs.Commands.{readReply}
 use borrow.Author.Needs.{needs}
 use Rattle.commands.proofs.command.served.Statement.{statement}

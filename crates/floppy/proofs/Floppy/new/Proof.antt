@@ -1,6 +1,5 @@
-use mathlib.Core.Path.{_≡_, refl, sym, ap, _∙_}
+use mathlib.Core.Path.{refl}
 use Rattle.floppy.specs.Calls.{newFloppy}
-use borrow.Author.Needs.{needs}
 use Rattle.floppy.proofs.Floppy.new.Statement.{statement}
 use Rattle.floppy.proofs.Floppy.new.Tie as tie
 

@@ -1,4 +1,4 @@
-use mathlib.Core.Path.{_≡_, refl, sym, ap, _∙_}
+use mathlib.Core.Path.{ap}
 use Rattle.floppy.specs.Calls.{afterAs}
 use Rattle.registers.specs.declared.regs.Written.{Written}
 use borrow.Author.Needs.{needs}

@@ -1,4 +1,4 @@
-use mathlib.Core.Path.{_≡_, refl, sym, ap, _∙_}
+use mathlib.Core.Path.{ap}
 use Rattle.floppy.specs.Calls.{wroteAs}
 use borrow.Author.Needs.{needs}
 use Rattle.floppy.proofs.Floppy.write_step.Statement.{statement}

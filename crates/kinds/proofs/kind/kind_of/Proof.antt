@@ -1,4 +1,4 @@
-use mathlib.Core.Path.{_≡_, refl, sym, ap, _∙_}
+use mathlib.Core.Path.{_∙_}
 use borrow.Author.Tests.{eq-eqb}
 use Rattle.kinds.specs.Table.{rows}
 use Rattle.kinds.proofs.Rows.{rowAt, kind-is, kind-masked}

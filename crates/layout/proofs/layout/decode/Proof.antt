@@ -1,17 +1,7 @@
 use Rattle.layout.specs.Layout.{regsAt}
-use mathlib.Core.Path.{_≡_, refl, sym, ap, _∙_}
 use borrow.Author.Needs.{needs}
 use Rattle.layout.proofs.layout.decode.Statement.{statement}
 use Rattle.layout.proofs.layout.decode.Tie as tie
-use Rattle.layout.proofs.layout.decode.Reads as reads
-use Rattle.layout.proofs.layout.decode.Lts as lts
-use Rattle.layout.proofs.layout.command_at.Reads as command-at-reads
-use Rattle.layout.proofs.layout.drive_at.Reads as drive-at-reads
-use Rattle.layout.proofs.layout.flag_at.Reads as flag-at-reads
-use Rattle.layout.proofs.layout.long_at.Reads as long-at-reads
-use Rattle.layout.proofs.layout.reply_at.Reads as reply-at-reads
-use Rattle.layout.proofs.layout.word_at.Reads as word-at-reads
-use Rattle.layout.proofs.layout.write_at.Reads as write-at-reads
 
 -- src/layout.rt:155:9
 command-at-requires : tie.Need-command-at-requires

@@ -1,11 +1,6 @@
-use mathlib.Core.Path.{_≡_, refl, sym, ap, _∙_}
 use borrow.Author.Needs.{needs}
 use Rattle.layout.proofs.layout.drive_at.Statement.{statement}
 use Rattle.layout.proofs.layout.drive_at.Tie as tie
-use Rattle.layout.proofs.layout.drive_at.Reads as reads
-use Rattle.layout.proofs.layout.drive_at.Lts as lts
-use Rattle.layout.proofs.layout.flag_at.Reads as flag-at-reads
-use Rattle.layout.proofs.layout.seek_at.Reads as seek-at-reads
 
 -- src/layout.rt:144:19
 shared-slice-read-t3 : tie.Need-shared-slice-read-t3

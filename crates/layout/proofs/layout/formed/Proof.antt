@@ -1,7 +1,6 @@
 use Rattle.layout.proofs.Images.{formed-all}
 use Rattle.layout.specs.Layout.{formed}
 use borrow.Author.Tests.{eq-eqb, ne-eqb, le-leb, lt-leb}
-use mathlib.Core.Path.{_≡_, refl, sym, ap, _∙_}
 use borrow.Author.Needs.{needs}
 use Rattle.layout.proofs.layout.formed.Statement.{statement}
 use Rattle.layout.proofs.layout.formed.Tie as tie

@@ -1,11 +1,8 @@
 use Rattle.layout.proofs.Images.{number4}
-use mathlib.Core.Path.{_≡_, refl, sym, ap, _∙_}
+use mathlib.Core.Path.{_∙_}
 use borrow.Author.Needs.{needs}
 use Rattle.layout.proofs.layout.long_at.Statement.{statement}
 use Rattle.layout.proofs.layout.long_at.Tie as tie
-use Rattle.layout.proofs.layout.long_at.Reads as reads
-use Rattle.layout.proofs.layout.long_at.Lts as lts
-use Rattle.layout.proofs.layout.long.Reads as long-reads
 
 -- src/layout.rt:65:10
 shared-slice-read-long : tie.Need-shared-slice-read-long

@@ -1,11 +1,8 @@
 use Rattle.layout.proofs.Images.{number2}
-use mathlib.Core.Path.{_≡_, refl, sym, ap, _∙_}
+use mathlib.Core.Path.{_∙_}
 use borrow.Author.Needs.{needs}
 use Rattle.layout.proofs.layout.word_at.Statement.{statement}
 use Rattle.layout.proofs.layout.word_at.Tie as tie
-use Rattle.layout.proofs.layout.word_at.Reads as reads
-use Rattle.layout.proofs.layout.word_at.Lts as lts
-use Rattle.layout.proofs.layout.word.Reads as word-reads
 
 -- src/layout.rt:58:10
 shared-slice-read-word : tie.Need-shared-slice-read-word

@@ -1,11 +1,6 @@
-use mathlib.Core.Path.{_≡_, refl, sym, ap, _∙_}
 use borrow.Author.Needs.{needs}
 use Rattle.layout.proofs.layout.write_at.Statement.{statement}
 use Rattle.layout.proofs.layout.write_at.Tie as tie
-use Rattle.layout.proofs.layout.write_at.Reads as reads
-use Rattle.layout.proofs.layout.write_at.Lts as lts
-use Rattle.layout.proofs.layout.flag_at.Reads as flag-at-reads
-use Rattle.layout.proofs.layout.word_at.Reads as word-at-reads
 
 -- src/layout.rt:126:12
 shared-slice-read-flag-at : tie.Need-shared-slice-read-flag-at

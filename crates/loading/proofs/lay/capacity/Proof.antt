@@ -1,5 +1,4 @@
 use Rattle.loading.proofs.Loads.{tracks-over, sectors-over, bytes-over, all-inside}
-use borrow.Author.Needs.{needs}
 use Rattle.loading.proofs.lay.capacity.Statement.{statement}
 use Rattle.loading.proofs.lay.capacity.Tie as tie
 

@@ -1,4 +1,4 @@
-use mathlib.Core.Path.{_≡_, refl, sym, ap, _∙_}
+use mathlib.Core.Path.{_≡_, ap, _∙_}
 use lib.ListN.{length, getD}
 use Rattle.store.specs.declared.answer.Done.the-variants.{Good}
 use Rattle.registers.specs.declared.regs.Written.{Written}

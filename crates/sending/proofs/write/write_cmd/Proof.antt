@@ -1,4 +1,4 @@
-use mathlib.Core.Path.{_≡_, refl, sym, ap, _∙_}
+use mathlib.Core.Path.{sym, _∙_}
 use Rattle.registers.proofs.Numbers.{possible, possible-in, count-few, taken-few}
 use Rattle.sending.proofs.Sends.{write-wrong, left-data, left-command}
 use borrow.Author.Needs.{needs}

@@ -1,6 +1,5 @@
 use native.Mathlib.Omega.{arith}
 use Rattle.store.specs.Store.{transferRoom}
-use borrow.Author.Needs.{needs}
 use Rattle.store.proofs.check.transfer_room.Statement.{statement}
 use Rattle.store.proofs.check.transfer_room.Tie as tie
 

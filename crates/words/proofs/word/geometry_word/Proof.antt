@@ -1,6 +1,5 @@
-use Rattle.store.specs.declared.answer.Geometry.{Geometry}
 use Rattle.words.specs.Words.{geometryWord}
-use mathlib.Core.Path.{_≡_, refl, sym, ap, _∙_}
+use mathlib.Core.Path.{sym, ap, _∙_}
 use borrow.Author.Needs.{needs}
 use Rattle.words.proofs.word.geometry_word.Statement.{statement}
 use Rattle.words.proofs.word.geometry_word.Tie as tie

@@ -1,4 +1,4 @@
-use mathlib.Core.Path.{_≡_, refl, sym, ap, _∙_}
+use mathlib.Core.Path.{sym, ap, _∙_}
 use Rattle.registers.specs.Settle.{keptIf}
 use Rattle.store.specs.declared.answer.Done.{Done}
 use borrow.Author.Needs.{needs}

@@ -1,4 +1,4 @@
-use mathlib.Core.Path.{_≡_, refl, sym, ap, ap₂, _∙_}
+use mathlib.Core.Path.{_≡_, sym, ap, ap₂, _∙_}
 use native.Mathlib.Omega.{arith}
 use Prim.Native.Nat.{_+_}
 use lib.Dec.{eqb, ltb}
@@ -8,7 +8,6 @@ use Rattle.registers.specs.declared.regs.Byte.the-variants as byte
 use Rattle.registers.specs.Ports.{phase, seekBit, settled, pollBy}
 use Rattle.registers.specs.Settle.{sought}
 use Rattle.registers.specs.Calls.{regsPolled, statusRead, statusOf, afterStatusOf}
-use mathlib.Core.Path.{_≡_, refl, sym, ap, _∙_}
 use Rattle.registers.proofs.Numbers.{possible}
 use borrow.Author.Needs.{needs}
 use Rattle.registers.proofs.regs.Regs.read_status.Statement.{statement}
