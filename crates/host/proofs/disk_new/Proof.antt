@@ -19,7 +19,9 @@ same-length-2 : tie.Need-same-length-2
 same-length-2 c = search needs
 
 returns : tie.Need-returns
-returns c = ap (λ (w : ℕ). outcome w (c .before .before .before .before .before .new .last .1 .0) (c .before .before .before .before .before .new .last .1 .1 .0)) (c .done-word .ensures) ∙ ap worded (c .before .before .before .before .before .new .ensures)
+returns c =
+    let new = c .before .before .before .before .before .new in
+    ap (λ (w : ℕ). outcome w (new .last .1 .0) (new .last .1 .1 .0)) (c .done-word .ensures) ∙ ap worded (new .ensures)
 
 pub disk-new-spec : {M : Type 1} → statement M
 disk-new-spec =

@@ -19,7 +19,9 @@ same-length-2 : tie.Need-same-length-2
 same-length-2 c = search needs
 
 returns : tie.Need-returns
-returns c = ap (λ (w : ℕ). outcome w (c .before .before .before .before .before .new-formatted .last .0) (c .before .before .before .before .before .new-formatted .last .1 .0)) (c .done-word .ensures) ∙ ap worded (c .before .before .before .before .before .new-formatted .ensures)
+returns c =
+    let new-formatted = c .before .before .before .before .before .new-formatted in
+    ap (λ (w : ℕ). outcome w (new-formatted .last .0) (new-formatted .last .1 .0)) (c .done-word .ensures) ∙ ap worded (new-formatted .ensures)
 
 pub disk-new-formatted-spec : {M : Type 1} → statement M
 disk-new-formatted-spec =

@@ -17,13 +17,19 @@ enum-known-from : tie.Need-enum-known-from
 enum-known-from c = search needs
 
 mul-result : tie.Need-mul-result
-mul-result c = omega (arith, part-ends _ _ _ _ _ _ (c .before .before .before .locate .ensures) _ _ _ _ (c .before .from .given .1), part-few _ _ _ _ _ _ (c .before .before .before .locate .ensures) _ _ _ _ (c .before .from .given .1))
+mul-result c =
+    let locate = c .before .before .before .locate in
+    omega
+    (arith, part-ends _ _ _ _ _ _ (locate .ensures) _ _ _ _ (c .before .from .given .1), part-few _ _ _ _ _ _ (locate .ensures) _ _ _ _ (c .before .from .given .1))
 
 sub-result : tie.Need-sub-result
 sub-result c = omega (arith, part-ends _ _ _ _ _ _ (c .before .before .before .locate .ensures) _ _ _ _ (c .before .from .given .1))
 
 add-result : tie.Need-add-result
-add-result c = omega (arith, part-ends _ _ _ _ _ _ (c .before .before .before .locate .ensures) _ _ _ _ (c .before .from .given .1), part-few _ _ _ _ _ _ (c .before .before .before .locate .ensures) _ _ _ _ (c .before .from .given .1))
+add-result c =
+    let locate = c .before .before .before .locate in
+    omega
+    (arith, part-ends _ _ _ _ _ _ (locate .ensures) _ _ _ _ (c .before .from .given .1), part-few _ _ _ _ _ _ (locate .ensures) _ _ _ _ (c .before .from .given .1))
 
 returns : tie.Need-returns
 returns c = part-word _ _ _ _ _ _ (c .before .before .locate .ensures) _ (c .enum-told .given .1)

@@ -28,7 +28,12 @@ byte-word-requires c κs = search needs
 
 returns-2 : tie.Need-returns-2
 unfolding trackOn
-returns-2 c = asked-good _ _ (c .before .before .before .before .formed .ensures) (c .before .before .before .if1 .left) _ (c .before .before .decode .ensures) _ (λ r. byteWord (trackOf r)) (c .byte-word .ensures ∙ ap byteWord (c .before .current-track .ensures))
+returns-2 c =
+    let formed = c .before .before .before .before .formed in
+    let if1 = c .before .before .before .if1 in
+    let decode = c .before .before .decode in
+    asked-good _ _ (formed .ensures) (if1 .left) _ (decode .ensures) _ (λ r. byteWord (trackOf r))
+    (c .byte-word .ensures ∙ ap byteWord (c .before .current-track .ensures))
 
 pub floppy-current-track-spec : {M : Type 1} → statement M
 floppy-current-track-spec =

@@ -30,10 +30,19 @@ part-write-cmd-end : tie.Need-part-write-cmd-end
 part-write-cmd-end c = search needs
 
 write-cmd-requires : tie.Need-write-cmd-requires
-write-cmd-requires c κs = mid-long (c .before .before .before .before .before .before .before .before .before .before .before .before .before .args .controller .now) (here-long _ _ (c .before .before .before .before .before .before .before .formed .ensures) (c .before .before .before .before .before .before .if1 .left))
+write-cmd-requires c κs =
+    let args = c .before .before .before .before .before .before .before .before .before .before .before .before .before .args in
+    let formed = c .before .before .before .before .before .before .before .formed in
+    let if1 = c .before .before .before .before .before .before .if1 in
+    mid-long (args .controller .now) (here-long _ _ (formed .ensures) (if1 .left))
 
 settle-requires : tie.Need-settle-requires
-settle-requires c κs = put-long (c .before .before .before .before .before .before .before .before .before .before .before .before .before .before .before .before .before .before .before .before .before .before .before .args .controller .now) (c .before .before .before .before .before .before .before .before .before .write-cmd .last .1 .1 .0) (here-long _ _ (c .before .before .before .before .before .before .before .before .before .before .before .before .before .before .before .before .before .formed .ensures) (c .before .before .before .before .before .before .before .before .before .before .before .before .before .before .before .before .if1 .left)) (c .before .before .before .before .before .before .before .before .before .write-cmd .kept .1 .1 .0)
+settle-requires c κs =
+    let args = c .before .before .before .before .before .before .before .before .before .before .before .before .before .before .before .before .before .before .before .before .before .before .before .args in
+    let formed = c .before .before .before .before .before .before .before .before .before .before .before .before .before .before .before .before .before .formed in
+    let if1 = c .before .before .before .before .before .before .before .before .before .before .before .before .before .before .before .before .if1 in
+    let write-cmd = c .before .before .before .before .before .before .before .before .before .write-cmd in
+    put-long (args .controller .now) (write-cmd .last .1 .1 .0) (here-long _ _ (formed .ensures) (if1 .left)) (write-cmd .kept .1 .1 .0)
 
 same-length-2 : tie.Need-same-length-2
 same-length-2 c = search needs
@@ -48,7 +57,14 @@ same-length-5 : tie.Need-same-length-5
 same-length-5 c = search needs
 
 returns-2 : tie.Need-returns-2
-returns-2 c = sent-good _ _ _ _ _ _ _ _ _ _ _ _ (here-long _ _ (c .before .before .before .before .before .before .before .before .before .before .before .before .before .before .before .before .before .before .before .before .formed .ensures) (c .before .before .before .before .before .before .before .before .before .before .before .before .before .before .before .before .before .before .before .if1 .left)) _ (c .before .before .before .before .before .before .before .before .before .before .before .before .before .before .before .before .before .before .before .before .formed .ensures) (c .before .before .before .before .before .before .before .before .before .before .before .before .before .before .before .before .before .before .before .if1 .left) _ (c .before .before .before .before .before .before .before .before .before .before .before .before .before .before .before .before .before .decode .ensures) (c .before .before .before .before .before .before .before .before .before .before .before .before .write-cmd .ensures) (c .before .before .settle .ensures)
+returns-2 c =
+    let formed = c .before .before .before .before .before .before .before .before .before .before .before .before .before .before .before .before .before .before .before .before .formed in
+    let if1 = c .before .before .before .before .before .before .before .before .before .before .before .before .before .before .before .before .before .before .before .if1 in
+    let decode = c .before .before .before .before .before .before .before .before .before .before .before .before .before .before .before .before .before .decode in
+    let write-cmd = c .before .before .before .before .before .before .before .before .before .before .before .before .write-cmd in
+    let settle = c .before .before .settle in
+    sent-good _ _ _ _ _ _ _ _ _ _ _ _ (here-long _ _ (formed .ensures) (if1 .left)) _ (formed .ensures) (if1 .left) _ (decode .ensures)
+    (write-cmd .ensures) (settle .ensures)
 
 pub floppy-write-cmd-spec : {M : Type 1} → statement M
 floppy-write-cmd-spec =

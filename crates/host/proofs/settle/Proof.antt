@@ -22,10 +22,18 @@ same-length : tie.Need-same-length
 same-length c = search needs
 
 returns : tie.Need-returns
-returns c = ap (answered 0) (c .before .before .encode .ensures) ∙ ap (λ (z : Done). writtenAs (c .before .before .before .before .before .before .before .before .args .controller .now) z (c .before .before .before .before .before .before .before .before .args .a .regs)) (sym (c .before .before .before .before .enum-told .given .1))
+returns c =
+    let args = c .before .before .before .before .before .before .before .before .args in
+    let enum-told = c .before .before .before .before .enum-told in
+    let encode = c .before .before .encode in
+    ap (answered 0) (encode .ensures) ∙ ap (λ (z : Done). writtenAs (args .controller .now) z (args .a .regs)) (sym (enum-told .given .1))
 
 returns-2 : tie.Need-returns-2
-returns-2 c = ap (λ (w : ℕ). answered w (c .before .before .before .before .before .before .args .controller .now)) (c .refusal-word .ensures) ∙ ap (λ (z : Done). writtenAs (c .before .before .before .before .before .before .args .controller .now) z (c .before .before .before .before .before .before .args .a .regs)) (sym (c .before .before .done .given .1))
+returns-2 c =
+    let args = c .before .before .before .before .before .before .args in
+    let done = c .before .before .done in
+    ap (λ (w : ℕ). answered w (args .controller .now)) (c .refusal-word .ensures)
+    ∙ ap (λ (z : Done). writtenAs (args .controller .now) z (args .a .regs)) (sym (done .given .1))
 
 pub settle-spec : {M : Type 1} → statement M
 settle-spec =

@@ -25,10 +25,19 @@ same-length : tie.Need-same-length
 same-length c = search needs
 
 returns : tie.Need-returns
-returns c = (λ i. answered (c .wide .ensures i) (c .before .before .before .encode .ensures i)) ∙ ap (λ (z : Byte). toldAs (c .before .before .before .before .before .before .before .before .before .before .args .controller .now) z (c .before .before .before .before .before .before .before .before .before .before .args .a .regs)) (sym (c .before .before .before .before .before .before .answer .given .1))
+returns c =
+    let args = c .before .before .before .before .before .before .before .before .before .before .args in
+    let answer = c .before .before .before .before .before .before .answer in
+    let encode = c .before .before .before .encode in
+    (λ i. answered (c .wide .ensures i) (encode .ensures i))
+    ∙ ap (λ (z : Byte). toldAs (args .controller .now) z (args .a .regs)) (sym (answer .given .1))
 
 returns-2 : tie.Need-returns-2
-returns-2 c = ap (λ (w : ℕ). answered w (c .before .before .before .before .before .before .args .controller .now)) (c .refusal-word .ensures) ∙ ap (λ (z : Byte). toldAs (c .before .before .before .before .before .before .args .controller .now) z (c .before .before .before .before .before .before .args .a .regs)) (sym (c .before .before .answer2 .given .1))
+returns-2 c =
+    let args = c .before .before .before .before .before .before .args in
+    let answer2 = c .before .before .answer2 in
+    ap (λ (w : ℕ). answered w (args .controller .now)) (c .refusal-word .ensures)
+    ∙ ap (λ (z : Byte). toldAs (args .controller .now) z (args .a .regs)) (sym (answer2 .given .1))
 
 pub tell-spec : {M : Type 1} → statement M
 tell-spec =

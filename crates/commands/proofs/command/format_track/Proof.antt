@@ -22,7 +22,12 @@ not-ready-requires c κs = search needs
 
 returns : tie.Need-returns
 unfolding formatTrack regsOf regsAll regsShifted
-returns c = let q = format-none (c .before .before .before .before .before .before .args .regs) (c .before .before .before .before .before .before .args .table .now) (c .before .before .before .before .before .before .args .bytes .now) (getD (c .before .before .before .before .before .before .args .t2) 1 0) (getD (c .before .before .before .before .before .before .args .t2) 2 0) (getD (c .before .before .before .before .before .before .args .t2) 3 0) (getD (c .before .before .before .before .before .before .args .t2) 4 0) (getD (c .before .before .before .before .before .before .args .t2) 5 0) (sym (not-true _ (c .before .if1 .taken)) ∙ c .before .before .ready .ensures) in (c .not-ready .ensures ∙ q .0, q .1)
+returns c =
+    let args = c .before .before .before .before .before .before .args in
+    let ready = c .before .before .ready in
+    let q = format-none (args .regs) (args .table .now) (args .bytes .now) (getD (args .t2) 1 0) (getD (args .t2) 2 0) (getD (args .t2) 3 0)
+    (getD (args .t2) 4 0) (getD (args .t2) 5 0) (sym (not-true _ (c .before .if1 .taken)) ∙ ready .ensures) in
+    (c .not-ready .ensures ∙ q .0, q .1)
 
 array-read-t15 : tie.Need-array-read-t15
 array-read-t15 c = search needs
@@ -58,7 +63,15 @@ same-length-2 : tie.Need-same-length-2
 same-length-2 c = search needs
 
 returns-2 : tie.Need-returns-2
-returns-2 c = let q = format-ran (c .before .before .before .before .before .before .before .before .before .before .before .before .before .before .before .before .args .regs) (c .before .before .before .before .before .before .before .before .before .before .before .before .before .before .before .before .args .table .now) (c .before .before .before .before .before .before .before .before .before .before .before .before .before .before .before .before .args .bytes .now) (getD (c .before .before .before .before .before .before .before .before .before .before .before .before .before .before .before .before .args .t2) 1 0) (getD (c .before .before .before .before .before .before .before .before .before .before .before .before .before .before .before .before .args .t2) 2 0) (getD (c .before .before .before .before .before .before .before .before .before .before .before .before .before .before .before .before .args .t2) 3 0) (getD (c .before .before .before .before .before .before .before .before .before .before .before .before .before .before .before .before .args .t2) 4 0) (getD (c .before .before .before .before .before .before .before .before .before .before .before .before .before .before .before .before .args .t2) 5 0) _ _ _ _ (sym (not-false _ (c .before .before .before .before .before .before .before .before .before .before .before .if1 .left)) ∙ c .before .before .before .before .before .before .before .before .before .before .before .before .ready .ensures) (c .before .before .why .given .1) (c .before .before .before .before .before .before .before .before .set-track .ensures) in (c .refused .ensures ∙ q .0, q .1)
+returns-2 c =
+    let args = c .before .before .before .before .before .before .before .before .before .before .before .before .before .before .before .before .args in
+    let ready = c .before .before .before .before .before .before .before .before .before .before .before .before .ready in
+    let if1 = c .before .before .before .before .before .before .before .before .before .before .before .if1 in
+    let set-track = c .before .before .before .before .before .before .before .before .set-track in
+    let why = c .before .before .why in
+    let q = format-ran (args .regs) (args .table .now) (args .bytes .now) (getD (args .t2) 1 0) (getD (args .t2) 2 0) (getD (args .t2) 3 0)
+    (getD (args .t2) 4 0) (getD (args .t2) 5 0) _ _ _ _ (sym (not-false _ (if1 .left)) ∙ ready .ensures) (why .given .1) (set-track .ensures) in
+    (c .refused .ensures ∙ q .0, q .1)
 
 same-length-3 : tie.Need-same-length-3
 same-length-3 c = search needs
@@ -67,7 +80,15 @@ same-length-4 : tie.Need-same-length-4
 same-length-4 c = search needs
 
 returns-3 : tie.Need-returns-3
-returns-3 c = let q = format-ran (c .before .before .before .before .before .before .before .before .before .before .before .before .before .before .before .before .args .regs) (c .before .before .before .before .before .before .before .before .before .before .before .before .before .before .before .before .args .table .now) (c .before .before .before .before .before .before .before .before .before .before .before .before .before .before .before .before .args .bytes .now) (getD (c .before .before .before .before .before .before .before .before .before .before .before .before .before .before .before .before .args .t2) 1 0) (getD (c .before .before .before .before .before .before .before .before .before .before .before .before .before .before .before .before .args .t2) 2 0) (getD (c .before .before .before .before .before .before .before .before .before .before .before .before .before .before .before .before .args .t2) 3 0) (getD (c .before .before .before .before .before .before .before .before .before .before .before .before .before .before .before .before .args .t2) 4 0) (getD (c .before .before .before .before .before .before .before .before .before .before .before .before .before .before .before .before .args .t2) 5 0) _ _ _ _ (sym (not-false _ (c .before .before .before .before .before .before .before .before .before .before .before .if1 .left)) ∙ c .before .before .before .before .before .before .before .before .before .before .before .before .ready .ensures) (c .before .before .enum-told .given .1) (c .before .before .before .before .before .before .before .before .set-track .ensures) in (c .reply7 .ensures ∙ simp (c .before .from-c1 .ensures) (q .0), q .1)
+returns-3 c =
+    let args = c .before .before .before .before .before .before .before .before .before .before .before .before .before .before .before .before .args in
+    let ready = c .before .before .before .before .before .before .before .before .before .before .before .before .ready in
+    let if1 = c .before .before .before .before .before .before .before .before .before .before .before .if1 in
+    let set-track = c .before .before .before .before .before .before .before .before .set-track in
+    let enum-told = c .before .before .enum-told in
+    let q = format-ran (args .regs) (args .table .now) (args .bytes .now) (getD (args .t2) 1 0) (getD (args .t2) 2 0) (getD (args .t2) 3 0)
+    (getD (args .t2) 4 0) (getD (args .t2) 5 0) _ _ _ _ (sym (not-false _ (if1 .left)) ∙ ready .ensures) (enum-told .given .1) (set-track .ensures) in
+    (c .reply7 .ensures ∙ simp (c .before .from-c1 .ensures) (q .0), q .1)
 
 pub format-track-spec : {M : Type 1} → statement M
 format-track-spec =

@@ -21,7 +21,13 @@ not-ready-requires c κs = search needs
 
 returns : tie.Need-returns
 unfolding readData regsOf regsAll regsShifted
-returns c = let q = read-none (c .before .before .before .before .before .before .before .args .regs) (c .before .before .before .before .before .before .before .args .deleted) (c .before .before .before .before .before .before .before .args .t3) (c .before .before .before .before .before .before .before .args .transfer .now) (c .before .before .before .before .before .before .before .args .table .now) (c .before .before .before .before .before .before .before .args .bytes .now) (sym (not-true _ (c .before .if1 .taken)) ∙ c .before .before .ready .ensures) in (c .not-ready .ensures ∙ simp (c .before .before .before .sector-id .ensures) (q .0), q .1)
+returns c =
+    let args = c .before .before .before .before .before .before .before .args in
+    let sector-id = c .before .before .before .sector-id in
+    let ready = c .before .before .ready in
+    let q = read-none (args .regs) (args .deleted) (args .t3) (args .transfer .now) (args .table .now) (args .bytes .now)
+    (sym (not-true _ (c .before .if1 .taken)) ∙ ready .ensures) in
+    (c .not-ready .ensures ∙ simp (sector-id .ensures) (q .0), q .1)
 
 array-read-read : tie.Need-array-read-read
 array-read-read c = search needs
@@ -45,25 +51,54 @@ enum-known-got : tie.Need-enum-known-got
 enum-known-got c = search needs
 
 served-requires : tie.Need-served-requires
-served-requires c κs = read-short (c .before .before .before .before .before .before .before .before .before .before .before .before .before .before .args .table .now) (c .before .before .before .before .before .before .before .before .before .before .before .before .before .before .args .bytes .now) _ _ _ _ (c .before .before .before .before .before .before .before .before .before .before .before .before .before .before .args .transfer .now) _ _ _ (c .before .got .given .1) (c .before .before .before .before .before .read .ensures)
+served-requires c κs =
+    let args = c .before .before .before .before .before .before .before .before .before .before .before .before .before .before .args in
+    let read = c .before .before .before .before .before .read in
+    read-short (args .table .now) (args .bytes .now) _ _ _ _ (args .transfer .now) _ _ _ (c .before .got .given .1) (read .ensures)
 
 same-length : tie.Need-same-length
 same-length c = search needs
 
 returns-2 : tie.Need-returns-2
-returns-2 c = let q = read-ran (c .before .before .before .before .before .before .before .before .before .before .before .before .before .before .before .args .regs) (c .before .before .before .before .before .before .before .before .before .before .before .before .before .before .before .args .deleted) (c .before .before .before .before .before .before .before .before .before .before .before .before .before .before .before .args .t3) (c .before .before .before .before .before .before .before .before .before .before .before .before .before .before .before .args .transfer .now) (c .before .before .before .before .before .before .before .before .before .before .before .before .before .before .before .args .table .now) (c .before .before .before .before .before .before .before .before .before .before .before .before .before .before .before .args .bytes .now) _ _ _ _ (sym (not-false _ (c .before .before .before .before .before .before .before .before .before .if1 .left)) ∙ c .before .before .before .before .before .before .before .before .before .before .ready .ensures) (c .before .before .why .given .1) (c .before .before .before .before .before .before .before .before .before .before .before .sector-id .ensures) (c .before .before .before .before .before .before .read .ensures) in (c .refused .ensures ∙ q .0, q .1)
+returns-2 c =
+    let args = c .before .before .before .before .before .before .before .before .before .before .before .before .before .before .before .args in
+    let sector-id = c .before .before .before .before .before .before .before .before .before .before .before .sector-id in
+    let ready = c .before .before .before .before .before .before .before .before .before .before .ready in
+    let if1 = c .before .before .before .before .before .before .before .before .before .if1 in
+    let read = c .before .before .before .before .before .before .read in
+    let why = c .before .before .why in
+    let q = read-ran (args .regs) (args .deleted) (args .t3) (args .transfer .now) (args .table .now) (args .bytes .now) _ _ _ _
+    (sym (not-false _ (if1 .left)) ∙ ready .ensures) (why .given .1) (sector-id .ensures) (read .ensures) in
+    (c .refused .ensures ∙ q .0, q .1)
 
 same-length-2 : tie.Need-same-length-2
 same-length-2 c = search needs
 
 returns-3 : tie.Need-returns-3
-returns-3 c = let q = read-ran (c .before .before .before .before .before .before .before .before .before .before .before .before .before .before .args .regs) (c .before .before .before .before .before .before .before .before .before .before .before .before .before .before .args .deleted) (c .before .before .before .before .before .before .before .before .before .before .before .before .before .before .args .t3) (c .before .before .before .before .before .before .before .before .before .before .before .before .before .before .args .transfer .now) (c .before .before .before .before .before .before .before .before .before .before .before .before .before .before .args .table .now) (c .before .before .before .before .before .before .before .before .before .before .before .before .before .before .args .bytes .now) _ _ _ _ (sym (not-false _ (c .before .before .before .before .before .before .before .before .if1 .left)) ∙ c .before .before .before .before .before .before .before .before .before .ready .ensures) (c .before .enum-told .given .1) (c .before .before .before .before .before .before .before .before .before .before .sector-id .ensures) (c .before .before .before .before .before .read .ensures) in (c .missing .ensures ∙ q .0, q .1)
+returns-3 c =
+    let args = c .before .before .before .before .before .before .before .before .before .before .before .before .before .before .args in
+    let sector-id = c .before .before .before .before .before .before .before .before .before .before .sector-id in
+    let ready = c .before .before .before .before .before .before .before .before .before .ready in
+    let if1 = c .before .before .before .before .before .before .before .before .if1 in
+    let read = c .before .before .before .before .before .read in
+    let q = read-ran (args .regs) (args .deleted) (args .t3) (args .transfer .now) (args .table .now) (args .bytes .now) _ _ _ _
+    (sym (not-false _ (if1 .left)) ∙ ready .ensures) (c .before .enum-told .given .1) (sector-id .ensures) (read .ensures) in
+    (c .missing .ensures ∙ q .0, q .1)
 
 same-length-3 : tie.Need-same-length-3
 same-length-3 c = search needs
 
 returns-4 : tie.Need-returns-4
-returns-4 c = let q = read-ran (c .before .before .before .before .before .before .before .before .before .before .before .before .before .before .before .args .regs) (c .before .before .before .before .before .before .before .before .before .before .before .before .before .before .before .args .deleted) (c .before .before .before .before .before .before .before .before .before .before .before .before .before .before .before .args .t3) (c .before .before .before .before .before .before .before .before .before .before .before .before .before .before .before .args .transfer .now) (c .before .before .before .before .before .before .before .before .before .before .before .before .before .before .before .args .table .now) (c .before .before .before .before .before .before .before .before .before .before .before .before .before .before .before .args .bytes .now) _ _ _ _ (sym (not-false _ (c .before .before .before .before .before .before .before .before .before .if1 .left)) ∙ c .before .before .before .before .before .before .before .before .before .before .ready .ensures) (c .before .before .got .given .1) (c .before .before .before .before .before .before .before .before .before .before .before .sector-id .ensures) (c .before .before .before .before .before .before .read .ensures) in (c .served .ensures ∙ q .0, q .1)
+returns-4 c =
+    let args = c .before .before .before .before .before .before .before .before .before .before .before .before .before .before .before .args in
+    let sector-id = c .before .before .before .before .before .before .before .before .before .before .before .sector-id in
+    let ready = c .before .before .before .before .before .before .before .before .before .before .ready in
+    let if1 = c .before .before .before .before .before .before .before .before .before .if1 in
+    let read = c .before .before .before .before .before .before .read in
+    let got = c .before .before .got in
+    let q = read-ran (args .regs) (args .deleted) (args .t3) (args .transfer .now) (args .table .now) (args .bytes .now) _ _ _ _
+    (sym (not-false _ (if1 .left)) ∙ ready .ensures) (got .given .1) (sector-id .ensures) (read .ensures) in
+    (c .served .ensures ∙ q .0, q .1)
 
 pub read-data-spec : {M : Type 1} → statement M
 read-data-spec =

@@ -18,7 +18,11 @@ id-not-ready-requires c κs = search needs
 
 returns : tie.Need-returns
 unfolding readId regsOf regsAll
-returns c = c .id-not-ready .ensures ∙ id-none (c .before .before .before .before .before .args .regs) (c .before .before .before .before .before .args .c1) (c .before .before .before .before .before .args .table .now) (c .before .before .before .before .before .args .bytes .now) (sym (not-true _ (c .before .if1 .taken)) ∙ c .before .before .ready .ensures)
+returns c =
+    let args = c .before .before .before .before .before .args in
+    let ready = c .before .before .ready in
+    c .id-not-ready .ensures
+    ∙ id-none (args .regs) (args .c1) (args .table .now) (args .bytes .now) (sym (not-true _ (c .before .if1 .taken)) ∙ ready .ensures)
 
 id-by-idx-requires : tie.Need-id-by-idx-requires
 id-by-idx-requires c κs = search needs
@@ -52,15 +56,41 @@ reply7-requires c κs = search needs
 
 returns-2 : tie.Need-returns-2
 unfolding regsOf
-returns-2 c = c .refused .ensures ∙ id-ran (c .before .before .before .before .before .before .before .before .before .before .args .regs) (c .before .before .before .before .before .before .before .before .before .before .args .c1) (c .before .before .before .before .before .before .before .before .before .before .args .table .now) (c .before .before .before .before .before .before .before .before .before .before .args .bytes .now) _ (sym (not-false _ (c .before .before .before .before .before .before .if1 .left)) ∙ c .before .before .before .before .before .before .before .ready .ensures) (sym (c .before .before .why .given .1) ∙ c .before .before .before .before .id-by-idx .ensures)
+returns-2 c =
+    let args = c .before .before .before .before .before .before .before .before .before .before .args in
+    let ready = c .before .before .before .before .before .before .before .ready in
+    let if1 = c .before .before .before .before .before .before .if1 in
+    let id-by-idx = c .before .before .before .before .id-by-idx in
+    let why = c .before .before .why in
+    c .refused .ensures
+    ∙ id-ran (args .regs) (args .c1) (args .table .now) (args .bytes .now) _ (sym (not-false _ (if1 .left)) ∙ ready .ensures)
+    (sym (why .given .1) ∙ id-by-idx .ensures)
 
 returns-3 : tie.Need-returns-3
 unfolding regsOf regsAll regsShifted
-returns-3 c = c .missing .ensures ∙ ap {B = Written} (λ (x : Regs). record { done = Good; regs = replied (missing (c .before .before .before .before .before .before .before .before .before .before .args .c1)) x }) (c .before .turned .ensures) ∙ id-ran (c .before .before .before .before .before .before .before .before .before .before .args .regs) (c .before .before .before .before .before .before .before .before .before .before .args .c1) (c .before .before .before .before .before .before .before .before .before .before .args .table .now) (c .before .before .before .before .before .before .before .before .before .before .args .bytes .now) _ (sym (not-false _ (c .before .before .before .before .before .before .if1 .left)) ∙ c .before .before .before .before .before .before .before .ready .ensures) (sym (c .before .before .enum-told .given .1) ∙ c .before .before .before .before .id-by-idx .ensures)
+returns-3 c =
+    let args = c .before .before .before .before .before .before .before .before .before .before .args in
+    let ready = c .before .before .before .before .before .before .before .ready in
+    let if1 = c .before .before .before .before .before .before .if1 in
+    let id-by-idx = c .before .before .before .before .id-by-idx in
+    let enum-told = c .before .before .enum-told in
+    c .missing .ensures
+    ∙ ap {B = Written} (λ (x : Regs). record { done = Good; regs = replied (missing (args .c1)) x }) (c .before .turned .ensures)
+    ∙ id-ran (args .regs) (args .c1) (args .table .now) (args .bytes .now) _ (sym (not-false _ (if1 .left)) ∙ ready .ensures)
+    (sym (enum-told .given .1) ∙ id-by-idx .ensures)
 
 returns-4 : tie.Need-returns-4
 unfolding regsOf regsAll regsShifted
-returns-4 c = c .reply7 .ensures ∙ simp (c .before .from-c1 .ensures, c .before .before .turned2 .ensures) (id-ran (c .before .before .before .before .before .before .before .before .before .before .before .before .args .regs) (c .before .before .before .before .before .before .before .before .before .before .before .before .args .c1) (c .before .before .before .before .before .before .before .before .before .before .before .before .args .table .now) (c .before .before .before .before .before .before .before .before .before .before .before .before .args .bytes .now) _ (sym (not-false _ (c .before .before .before .before .before .before .before .before .if1 .left)) ∙ c .before .before .before .before .before .before .before .before .before .ready .ensures) (sym (c .before .before .before .before .id .given .1) ∙ c .before .before .before .before .before .before .id-by-idx .ensures))
+returns-4 c =
+    let args = c .before .before .before .before .before .before .before .before .before .before .before .before .args in
+    let ready = c .before .before .before .before .before .before .before .before .before .ready in
+    let if1 = c .before .before .before .before .before .before .before .before .if1 in
+    let id-by-idx = c .before .before .before .before .before .before .id-by-idx in
+    let id = c .before .before .before .before .id in
+    let turned2 = c .before .before .turned2 in
+    c .reply7 .ensures
+    ∙ simp (c .before .from-c1 .ensures, turned2 .ensures)
+    (id-ran (args .regs) (args .c1) (args .table .now) (args .bytes .now) _ (sym (not-false _ (if1 .left)) ∙ ready .ensures) (sym (id .given .1) ∙ id-by-idx .ensures))
 
 pub read-id-spec : {M : Type 1} → statement M
 read-id-spec =

@@ -117,27 +117,45 @@ done-requires-3 c κs = search needs
 
 returns : tie.Need-returns
 unfolding obeyed regsOf regsAll regsShifted
-returns c = told-kind (c .before .before .before .before .before .before .args .regs) (c .before .before .before .before .before .before .args .table .now) (c .before .before .before .before .before .before .args .bytes .now) (c .before .before .before .before .before .before .args .transfer .now) (c .before .before .before .before .before .before .args .t3) _ _ _ (c .before .enum-told .given .1) (ap (λ (a : Written). ran a (c .before .before .before .before .before .before .args .table .now) (c .before .before .before .before .before .before .args .bytes .now) (c .before .before .before .before .before .before .args .transfer .now)) (c .done .ensures))
+returns c =
+    let args = c .before .before .before .before .before .before .args in
+    told-kind (args .regs) (args .table .now) (args .bytes .now) (args .transfer .now) (args .t3) _ _ _ (c .before .enum-told .given .1)
+    (ap (λ (a : Written). ran a (args .table .now) (args .bytes .now) (args .transfer .now)) (c .done .ensures))
 
 returns-2 : tie.Need-returns-2
 unfolding obeyed regsOf regsAll regsShifted
-returns-2 c = told-kind (c .before .before .before .before .before .before .args .regs) (c .before .before .before .before .before .before .args .table .now) (c .before .before .before .before .before .before .args .bytes .now) (c .before .before .before .before .before .before .args .transfer .now) (c .before .before .before .before .before .before .args .t3) _ _ _ (c .before .enum-told2 .given .1) (ap (λ (a : Written). ran a (c .before .before .before .before .before .before .args .table .now) (c .before .before .before .before .before .before .args .bytes .now) (c .before .before .before .before .before .before .args .transfer .now)) (c .sense-drive .ensures ∙ ap (λ (v : Bool). sensedAs (c .before .before .before .before .before .before .args .regs) (getD (c .before .before .before .before .before .before .args .t3) 1 0) v) (drive-ready (eqb (getD (c .before .before .before .before .before .before .args .t3) 1 0 % 4) 0) (c .before .before .before .before .before .before .args .regs .drive .disk) (diskOf (c .before .before .before .before .before .before .args .table .now) (c .before .before .before .before .before .before .args .bytes .now)))))
+returns-2 c =
+    let args = c .before .before .before .before .before .before .args in
+    told-kind (args .regs) (args .table .now) (args .bytes .now) (args .transfer .now) (args .t3) _ _ _ (c .before .enum-told2 .given .1)
+    (ap (λ (a : Written). ran a (args .table .now) (args .bytes .now) (args .transfer .now)) (c .sense-drive .ensures ∙ ap (λ (v : Bool). sensedAs (args .regs) (getD (args .t3) 1 0) v) (drive-ready (eqb (getD (args .t3) 1 0 % 4) 0) (args .regs .drive .disk) (diskOf (args .table .now) (args .bytes .now)))))
 
 returns-3 : tie.Need-returns-3
 unfolding obeyed
-returns-3 c = told-kind (c .before .before .before .before .before .before .args .regs) (c .before .before .before .before .before .before .args .table .now) (c .before .before .before .before .before .before .args .bytes .now) (c .before .before .before .before .before .before .args .transfer .now) (c .before .before .before .before .before .before .args .t3) _ _ _ (c .before .enum-told3 .given .1) (ran-quiet (c .before .before .before .before .before .before .args .regs) (c .before .before .before .before .before .before .args .table .now) (c .before .before .before .before .before .before .args .bytes .now) (c .before .before .before .before .before .before .args .transfer .now) _ _ (quiet-seek _ _) (c .seek .ensures))
+returns-3 c =
+    let args = c .before .before .before .before .before .before .args in
+    told-kind (args .regs) (args .table .now) (args .bytes .now) (args .transfer .now) (args .t3) _ _ _ (c .before .enum-told3 .given .1)
+    (ran-quiet (args .regs) (args .table .now) (args .bytes .now) (args .transfer .now) _ _ (quiet-seek _ _) (c .seek .ensures))
 
 returns-4 : tie.Need-returns-4
 unfolding obeyed regsOf regsAll regsShifted
-returns-4 c = told-kind (c .before .before .before .before .before .before .args .regs) (c .before .before .before .before .before .before .args .table .now) (c .before .before .before .before .before .before .args .bytes .now) (c .before .before .before .before .before .before .args .transfer .now) (c .before .before .before .before .before .before .args .t3) _ _ _ (c .before .enum-told4 .given .1) (ap (λ (a : Written). ran a (c .before .before .before .before .before .before .args .table .now) (c .before .before .before .before .before .before .args .bytes .now) (c .before .before .before .before .before .before .args .transfer .now)) (c .sense-interrupt .ensures))
+returns-4 c =
+    let args = c .before .before .before .before .before .before .args in
+    told-kind (args .regs) (args .table .now) (args .bytes .now) (args .transfer .now) (args .t3) _ _ _ (c .before .enum-told4 .given .1)
+    (ap (λ (a : Written). ran a (args .table .now) (args .bytes .now) (args .transfer .now)) (c .sense-interrupt .ensures))
 
 returns-5 : tie.Need-returns-5
 unfolding obeyed
-returns-5 c = told-kind (c .before .before .before .before .before .before .args .regs) (c .before .before .before .before .before .before .args .table .now) (c .before .before .before .before .before .before .args .bytes .now) (c .before .before .before .before .before .before .args .transfer .now) (c .before .before .before .before .before .before .args .t3) _ _ _ (c .before .enum-told5 .given .1) (ran-quiet (c .before .before .before .before .before .before .args .regs) (c .before .before .before .before .before .before .args .table .now) (c .before .before .before .before .before .before .args .bytes .now) (c .before .before .before .before .before .before .args .transfer .now) _ _ (quiet-seek _ _) (c .seek2 .ensures))
+returns-5 c =
+    let args = c .before .before .before .before .before .before .args in
+    told-kind (args .regs) (args .table .now) (args .bytes .now) (args .transfer .now) (args .t3) _ _ _ (c .before .enum-told5 .given .1)
+    (ran-quiet (args .regs) (args .table .now) (args .bytes .now) (args .transfer .now) _ _ (quiet-seek _ _) (c .seek2 .ensures))
 
 returns-6 : tie.Need-returns-6
 unfolding obeyed regsOf regsAll regsShifted
-returns-6 c = told-kind (c .before .before .before .before .before .before .args .regs) (c .before .before .before .before .before .before .args .table .now) (c .before .before .before .before .before .before .args .bytes .now) (c .before .before .before .before .before .before .args .transfer .now) (c .before .before .before .before .before .before .args .t3) _ _ _ (c .before .enum-told6 .given .1) (ap (λ (a : Written). ran a (c .before .before .before .before .before .before .args .table .now) (c .before .before .before .before .before .before .args .bytes .now) (c .before .before .before .before .before .before .args .transfer .now)) (c .reply1 .ensures))
+returns-6 c =
+    let args = c .before .before .before .before .before .before .args in
+    told-kind (args .regs) (args .table .now) (args .bytes .now) (args .transfer .now) (args .t3) _ _ _ (c .before .enum-told6 .given .1)
+    (ap (λ (a : Written). ran a (args .table .now) (args .bytes .now) (args .transfer .now)) (c .reply1 .ensures))
 
 same-length : tie.Need-same-length
 same-length c = search needs
@@ -150,7 +168,12 @@ same-length-3 c = search needs
 
 returns-7 : tie.Need-returns-7
 unfolding obeyed
-returns-7 c = told-kind (c .before .before .before .before .before .before .before .before .before .before .before .args .regs) (c .before .before .before .before .before .before .before .before .before .before .before .args .table .now) (c .before .before .before .before .before .before .before .before .before .before .before .args .bytes .now) (c .before .before .before .before .before .before .before .before .before .before .before .args .transfer .now) (c .before .before .before .before .before .before .before .before .before .before .before .args .t3) _ _ _ (c .before .before .before .before .before .before .enum-told7 .given .1) (ran-read (c .before .before .before .before .before .before .before .before .before .before .before .args .regs) (c .before .before .before .before .before .before .before .before .before .before .before .args .table .now) (c .before .before .before .before .before .before .before .before .before .before .before .args .bytes .now) (c .before .before .before .before .before .before .before .before .before .before .before .args .transfer .now) _ _ _ (unput-read _ _ _ _ _) (c .before .before .read-data .ensures))
+returns-7 c =
+    let args = c .before .before .before .before .before .before .before .before .before .before .before .args in
+    let enum-told7 = c .before .before .before .before .before .before .enum-told7 in
+    let read-data = c .before .before .read-data in
+    told-kind (args .regs) (args .table .now) (args .bytes .now) (args .transfer .now) (args .t3) _ _ _ (enum-told7 .given .1)
+    (ran-read (args .regs) (args .table .now) (args .bytes .now) (args .transfer .now) _ _ _ (unput-read _ _ _ _ _) (read-data .ensures))
 
 same-length-4 : tie.Need-same-length-4
 same-length-4 c = search needs
@@ -163,7 +186,12 @@ same-length-6 c = search needs
 
 returns-8 : tie.Need-returns-8
 unfolding obeyed
-returns-8 c = told-kind (c .before .before .before .before .before .before .before .before .before .before .before .args .regs) (c .before .before .before .before .before .before .before .before .before .before .before .args .table .now) (c .before .before .before .before .before .before .before .before .before .before .before .args .bytes .now) (c .before .before .before .before .before .before .before .before .before .before .before .args .transfer .now) (c .before .before .before .before .before .before .before .before .before .before .before .args .t3) _ _ _ (c .before .before .before .before .before .before .enum-told8 .given .1) (ran-read (c .before .before .before .before .before .before .before .before .before .before .before .args .regs) (c .before .before .before .before .before .before .before .before .before .before .before .args .table .now) (c .before .before .before .before .before .before .before .before .before .before .before .args .bytes .now) (c .before .before .before .before .before .before .before .before .before .before .before .args .transfer .now) _ _ _ (unput-read _ _ _ _ _) (c .before .before .read-data2 .ensures))
+returns-8 c =
+    let args = c .before .before .before .before .before .before .before .before .before .before .before .args in
+    let enum-told8 = c .before .before .before .before .before .before .enum-told8 in
+    let read-data2 = c .before .before .read-data2 in
+    told-kind (args .regs) (args .table .now) (args .bytes .now) (args .transfer .now) (args .t3) _ _ _ (enum-told8 .given .1)
+    (ran-read (args .regs) (args .table .now) (args .bytes .now) (args .transfer .now) _ _ _ (unput-read _ _ _ _ _) (read-data2 .ensures))
 
 same-length-7 : tie.Need-same-length-7
 same-length-7 c = search needs
@@ -173,7 +201,12 @@ same-length-8 c = search needs
 
 returns-9 : tie.Need-returns-9
 unfolding obeyed
-returns-9 c = told-kind (c .before .before .before .before .before .before .before .before .before .args .regs) (c .before .before .before .before .before .before .before .before .before .args .table .now) (c .before .before .before .before .before .before .before .before .before .args .bytes .now) (c .before .before .before .before .before .before .before .before .before .args .transfer .now) (c .before .before .before .before .before .before .before .before .before .args .t3) _ _ _ (c .before .before .before .before .enum-told9 .given .1) (ran-quiet (c .before .before .before .before .before .before .before .before .before .args .regs) (c .before .before .before .before .before .before .before .before .before .args .table .now) (c .before .before .before .before .before .before .before .before .before .args .bytes .now) (c .before .before .before .before .before .before .before .before .before .args .transfer .now) _ _ (quiet-write _ _ _ _) (c .write-data .ensures ∙ ap (λ (n : SectorId). regsOf (writeData (getD (c .before .before .before .before .before .before .before .before .before .args .t3) 1 0) n (c .before .before .before .before .before .before .before .before .before .args .regs .drive .cylinder) (named (getD (c .before .before .before .before .before .before .before .before .before .args .t3) 1 0) (slotOf (c .before .before .before .before .before .before .before .before .before .args .regs) (c .before .before .before .before .before .before .before .before .before .args .table .now) (c .before .before .before .before .before .before .before .before .before .args .bytes .now)))) (c .before .before .before .before .before .before .before .before .before .args .regs)) (c .before .before .before .sector-id .ensures)))
+returns-9 c =
+    let args = c .before .before .before .before .before .before .before .before .before .args in
+    let enum-told9 = c .before .before .before .before .enum-told9 in
+    let sector-id = c .before .before .before .sector-id in
+    told-kind (args .regs) (args .table .now) (args .bytes .now) (args .transfer .now) (args .t3) _ _ _ (enum-told9 .given .1)
+    (ran-quiet (args .regs) (args .table .now) (args .bytes .now) (args .transfer .now) _ _ (quiet-write _ _ _ _) (c .write-data .ensures ∙ ap (λ (n : SectorId). regsOf (writeData (getD (args .t3) 1 0) n (args .regs .drive .cylinder) (named (getD (args .t3) 1 0) (slotOf (args .regs) (args .table .now) (args .bytes .now)))) (args .regs)) (sector-id .ensures)))
 
 same-length-9 : tie.Need-same-length-9
 same-length-9 c = search needs
@@ -183,7 +216,11 @@ same-length-10 c = search needs
 
 returns-10 : tie.Need-returns-10
 unfolding obeyed
-returns-10 c = told-kind (c .before .before .before .before .before .before .before .before .args .regs) (c .before .before .before .before .before .before .before .before .args .table .now) (c .before .before .before .before .before .before .before .before .args .bytes .now) (c .before .before .before .before .before .before .before .before .args .transfer .now) (c .before .before .before .before .before .before .before .before .args .t3) _ _ _ (c .before .before .before .enum-told10 .given .1) (ran-quiet (c .before .before .before .before .before .before .before .before .args .regs) (c .before .before .before .before .before .before .before .before .args .table .now) (c .before .before .before .before .before .before .before .before .args .bytes .now) (c .before .before .before .before .before .before .before .before .args .transfer .now) _ _ (quiet-id _ _ _ _) (c .read-id .ensures))
+returns-10 c =
+    let args = c .before .before .before .before .before .before .before .before .args in
+    let enum-told10 = c .before .before .before .enum-told10 in
+    told-kind (args .regs) (args .table .now) (args .bytes .now) (args .transfer .now) (args .t3) _ _ _ (enum-told10 .given .1)
+    (ran-quiet (args .regs) (args .table .now) (args .bytes .now) (args .transfer .now) _ _ (quiet-id _ _ _ _) (c .read-id .ensures))
 
 same-length-11 : tie.Need-same-length-11
 same-length-11 c = search needs
@@ -193,15 +230,26 @@ same-length-12 c = search needs
 
 returns-11 : tie.Need-returns-11
 unfolding obeyed
-returns-11 c = told-kind (c .before .before .before .before .before .before .before .before .before .before .before .before .args .regs) (c .before .before .before .before .before .before .before .before .before .before .before .before .args .table .now) (c .before .before .before .before .before .before .before .before .before .before .before .before .args .bytes .now) (c .before .before .before .before .before .before .before .before .before .before .before .before .args .transfer .now) (c .before .before .before .before .before .before .before .before .before .before .before .before .args .t3) _ _ _ (c .before .before .before .before .before .before .before .enum-told11 .given .1) (ran-stored (c .before .before .before .before .before .before .before .before .before .before .before .before .args .regs) (c .before .before .before .before .before .before .before .before .before .before .before .before .args .table .now) (c .before .before .before .before .before .before .before .before .before .before .before .before .args .bytes .now) (c .before .before .before .before .before .before .before .before .before .before .before .before .args .transfer .now) _ _ _ _ (still-format _ _ _ _ _ _ _ _) (c .before .before .before .before .format-track .ensures))
+returns-11 c =
+    let args = c .before .before .before .before .before .before .before .before .before .before .before .before .args in
+    let enum-told11 = c .before .before .before .before .before .before .before .enum-told11 in
+    let format-track = c .before .before .before .before .format-track in
+    told-kind (args .regs) (args .table .now) (args .bytes .now) (args .transfer .now) (args .t3) _ _ _ (enum-told11 .given .1)
+    (ran-stored (args .regs) (args .table .now) (args .bytes .now) (args .transfer .now) _ _ _ _ (still-format _ _ _ _ _ _ _ _) (format-track .ensures))
 
 returns-12 : tie.Need-returns-12
 unfolding obeyed regsOf regsAll regsShifted
-returns-12 c = told-kind (c .before .before .before .before .before .before .args .regs) (c .before .before .before .before .before .before .args .table .now) (c .before .before .before .before .before .before .args .bytes .now) (c .before .before .before .before .before .before .args .transfer .now) (c .before .before .before .before .before .before .args .t3) _ _ _ (c .before .enum-told12 .given .1) (ap (λ (a : Written). ran a (c .before .before .before .before .before .before .args .table .now) (c .before .before .before .before .before .before .args .bytes .now) (c .before .before .before .before .before .before .args .transfer .now)) (c .done2 .ensures))
+returns-12 c =
+    let args = c .before .before .before .before .before .before .args in
+    told-kind (args .regs) (args .table .now) (args .bytes .now) (args .transfer .now) (args .t3) _ _ _ (c .before .enum-told12 .given .1)
+    (ap (λ (a : Written). ran a (args .table .now) (args .bytes .now) (args .transfer .now)) (c .done2 .ensures))
 
 returns-13 : tie.Need-returns-13
 unfolding obeyed regsOf regsAll regsShifted
-returns-13 c = told-kind (c .before .before .before .before .before .before .args .regs) (c .before .before .before .before .before .before .args .table .now) (c .before .before .before .before .before .before .args .bytes .now) (c .before .before .before .before .before .before .args .transfer .now) (c .before .before .before .before .before .before .args .t3) _ _ _ (c .before .enum-told13 .given .1) (ap (λ (a : Written). ran a (c .before .before .before .before .before .before .args .table .now) (c .before .before .before .before .before .before .args .bytes .now) (c .before .before .before .before .before .before .args .transfer .now)) (c .done3 .ensures))
+returns-13 c =
+    let args = c .before .before .before .before .before .before .args in
+    told-kind (args .regs) (args .table .now) (args .bytes .now) (args .transfer .now) (args .t3) _ _ _ (c .before .enum-told13 .given .1)
+    (ap (λ (a : Written). ran a (args .table .now) (args .bytes .now) (args .transfer .now)) (c .done3 .ensures))
 
 pub run-cmd-spec : {M : Type 1} → statement M
 run-cmd-spec =

@@ -33,13 +33,25 @@ reply1-requires-2 : tie.Need-reply1-requires-2
 reply1-requires-2 c κs = search needs
 
 returns-2 : tie.Need-returns-2
-returns-2 c = c .reply12 .ensures ∙ simp (c .before .before .before .from-c1 .ensures) (sense-zero (c .before .before .before .before .before .before .before .args .regs) (c .before .before .before .before .before .before .before .args .c1) _ (sym (not-false _ (c .before .before .before .before .before .if1 .left)) ∙ c .before .before .before .before .before .before .ready .ensures) (c .before .if2 .taken))
+returns-2 c =
+    let args = c .before .before .before .before .before .before .before .args in
+    let ready = c .before .before .before .before .before .before .ready in
+    let if1 = c .before .before .before .before .before .if1 in
+    let from-c1 = c .before .before .before .from-c1 in
+    c .reply12 .ensures
+    ∙ simp (from-c1 .ensures) (sense-zero (args .regs) (args .c1) _ (sym (not-false _ (if1 .left)) ∙ ready .ensures) (c .before .if2 .taken))
 
 reply1-requires-3 : tie.Need-reply1-requires-3
 reply1-requires-3 c κs = search needs
 
 returns-3 : tie.Need-returns-3
-returns-3 c = c .reply13 .ensures ∙ simp (c .before .before .before .from-c1 .ensures) (sense-on (c .before .before .before .before .before .before .before .args .regs) (c .before .before .before .before .before .before .before .args .c1) _ (sym (not-false _ (c .before .before .before .before .before .if1 .left)) ∙ c .before .before .before .before .before .before .ready .ensures) (c .before .if2 .left))
+returns-3 c =
+    let args = c .before .before .before .before .before .before .before .args in
+    let ready = c .before .before .before .before .before .before .ready in
+    let if1 = c .before .before .before .before .before .if1 in
+    let from-c1 = c .before .before .before .from-c1 in
+    c .reply13 .ensures
+    ∙ simp (from-c1 .ensures) (sense-on (args .regs) (args .c1) _ (sym (not-false _ (if1 .left)) ∙ ready .ensures) (c .before .if2 .left))
 
 pub sense-drive-spec : {M : Type 1} → statement M
 sense-drive-spec =

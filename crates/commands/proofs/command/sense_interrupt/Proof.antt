@@ -30,15 +30,29 @@ reply2-requires-3 c κs = search needs
 
 returns : tie.Need-returns
 unfolding regsShifted interruptedBy
-returns c = let r = c .before .before .before .before .args .regs in c .reply2 .ensures ∙ sym (ap {B = Written} (λ (s : Seek). record { done = Good; regs = interruptedBy (r .drive .cylinder) r s }) (c .before .enum-told .given .1))
+returns c =
+    let args = c .before .before .before .before .args in
+    let r = args .regs in
+    c .reply2 .ensures
+    ∙ sym (ap {B = Written} (λ (s : Seek). record { done = Good; regs = interruptedBy (r .drive .cylinder) r s }) (c .before .enum-told .given .1))
 
 returns-2 : tie.Need-returns-2
 unfolding regsShifted interruptedBy
-returns-2 c = let r = c .before .before .before .before .before .args .regs in c .reply22 .ensures ∙ simp (c .before .moved .ensures) (sym (ap {B = Written} (λ (s : Seek). record { done = Good; regs = interruptedBy (r .drive .cylinder) r s }) (c .before .before .enum-told2 .given .1)))
+returns-2 c =
+    let args = c .before .before .before .before .before .args in
+    let enum-told2 = c .before .before .enum-told2 in
+    let r = args .regs in
+    c .reply22 .ensures
+    ∙ simp (c .before .moved .ensures)
+    (sym (ap {B = Written} (λ (s : Seek). record { done = Good; regs = interruptedBy (r .drive .cylinder) r s }) (enum-told2 .given .1)))
 
 returns-3 : tie.Need-returns-3
 unfolding regsShifted interruptedBy
-returns-3 c = let r = c .before .before .before .before .args .regs in c .reply23 .ensures ∙ sym (ap {B = Written} (λ (s : Seek). record { done = Good; regs = interruptedBy (r .drive .cylinder) r s }) (c .before .enum-told3 .given .1))
+returns-3 c =
+    let args = c .before .before .before .before .args in
+    let r = args .regs in
+    c .reply23 .ensures
+    ∙ sym (ap {B = Written} (λ (s : Seek). record { done = Good; regs = interruptedBy (r .drive .cylinder) r s }) (c .before .enum-told3 .given .1))
 
 pub sense-interrupt-spec : {M : Type 1} → statement M
 sense-interrupt-spec =

@@ -18,7 +18,11 @@ not-ready-requires c κs = search needs
 
 returns : tie.Need-returns
 unfolding writeData regsOf regsAll regsShifted
-returns c = c .not-ready .ensures ∙ start-none (c .before .before .before .before .before .args .regs) (c .before .before .before .before .before .args .c1) (c .before .before .before .before .before .args .id) (c .before .before .before .before .before .args .table .now) (c .before .before .before .before .before .args .bytes .now) (sym (not-true _ (c .before .if1 .taken)) ∙ c .before .before .ready .ensures)
+returns c =
+    let args = c .before .before .before .before .before .args in
+    let ready = c .before .before .ready in
+    c .not-ready .ensures
+    ∙ start-none (args .regs) (args .c1) (args .id) (args .table .now) (args .bytes .now) (sym (not-true _ (c .before .if1 .taken)) ∙ ready .ensures)
 
 has-sector-requires : tie.Need-has-sector-requires
 has-sector-requires c κs = search needs
@@ -46,15 +50,39 @@ done-requires c κs = search needs
 
 returns-2 : tie.Need-returns-2
 unfolding regsOf
-returns-2 c = c .refused .ensures ∙ start-ran (c .before .before .before .before .before .before .before .before .before .before .args .regs) (c .before .before .before .before .before .before .before .before .before .before .args .c1) (c .before .before .before .before .before .before .before .before .before .before .args .id) (c .before .before .before .before .before .before .before .before .before .before .args .table .now) (c .before .before .before .before .before .before .before .before .before .before .args .bytes .now) _ (sym (not-false _ (c .before .before .before .before .before .before .if1 .left)) ∙ c .before .before .before .before .before .before .before .ready .ensures) (sym (c .before .before .why .given .1) ∙ c .before .before .before .before .has-sector .ensures)
+returns-2 c =
+    let args = c .before .before .before .before .before .before .before .before .before .before .args in
+    let ready = c .before .before .before .before .before .before .before .ready in
+    let if1 = c .before .before .before .before .before .before .if1 in
+    let has-sector = c .before .before .before .before .has-sector in
+    let why = c .before .before .why in
+    c .refused .ensures
+    ∙ start-ran (args .regs) (args .c1) (args .id) (args .table .now) (args .bytes .now) _ (sym (not-false _ (if1 .left)) ∙ ready .ensures)
+    (sym (why .given .1) ∙ has-sector .ensures)
 
 returns-3 : tie.Need-returns-3
 unfolding regsOf regsAll regsShifted
-returns-3 c = c .missing .ensures ∙ start-ran (c .before .before .before .before .before .before .before .before .before .args .regs) (c .before .before .before .before .before .before .before .before .before .args .c1) (c .before .before .before .before .before .before .before .before .before .args .id) (c .before .before .before .before .before .before .before .before .before .args .table .now) (c .before .before .before .before .before .before .before .before .before .args .bytes .now) _ (sym (not-false _ (c .before .before .before .before .before .if1 .left)) ∙ c .before .before .before .before .before .before .ready .ensures) (sym (c .before .enum-told .given .1) ∙ c .before .before .before .has-sector .ensures)
+returns-3 c =
+    let args = c .before .before .before .before .before .before .before .before .before .args in
+    let ready = c .before .before .before .before .before .before .ready in
+    let if1 = c .before .before .before .before .before .if1 in
+    let has-sector = c .before .before .before .has-sector in
+    c .missing .ensures
+    ∙ start-ran (args .regs) (args .c1) (args .id) (args .table .now) (args .bytes .now) _ (sym (not-false _ (if1 .left)) ∙ ready .ensures)
+    (sym (c .before .enum-told .given .1) ∙ has-sector .ensures)
 
 returns-4 : tie.Need-returns-4
 unfolding regsOf regsAll regsShifted
-returns-4 c = c .done .ensures ∙ ap {B = Written} (λ (x : Regs). record { done = Good; regs = x }) (c .before .started .ensures) ∙ start-ran (c .before .before .before .before .before .before .before .before .before .before .args .regs) (c .before .before .before .before .before .before .before .before .before .before .args .c1) (c .before .before .before .before .before .before .before .before .before .before .args .id) (c .before .before .before .before .before .before .before .before .before .before .args .table .now) (c .before .before .before .before .before .before .before .before .before .before .args .bytes .now) _ (sym (not-false _ (c .before .before .before .before .before .before .if1 .left)) ∙ c .before .before .before .before .before .before .before .ready .ensures) (sym (c .before .before .enum-told2 .given .1) ∙ c .before .before .before .before .has-sector .ensures)
+returns-4 c =
+    let args = c .before .before .before .before .before .before .before .before .before .before .args in
+    let ready = c .before .before .before .before .before .before .before .ready in
+    let if1 = c .before .before .before .before .before .before .if1 in
+    let has-sector = c .before .before .before .before .has-sector in
+    let enum-told2 = c .before .before .enum-told2 in
+    c .done .ensures
+    ∙ ap {B = Written} (λ (x : Regs). record { done = Good; regs = x }) (c .before .started .ensures)
+    ∙ start-ran (args .regs) (args .c1) (args .id) (args .table .now) (args .bytes .now) _ (sym (not-false _ (if1 .left)) ∙ ready .ensures)
+    (sym (enum-told2 .given .1) ∙ has-sector .ensures)
 
 pub write-data-spec : {M : Type 1} → statement M
 write-data-spec =

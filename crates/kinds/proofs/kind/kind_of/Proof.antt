@@ -30,7 +30,12 @@ mask-kind-requires : tie.Need-mask-kind-requires
 mask-kind-requires c κs = search needs
 
 returns-6 : tie.Need-returns-6
-returns-6 c = c .mask-kind .ensures ∙ kind-masked _ (c .before .before .before .before .before .if1 .left) (c .before .before .before .before .if2 .left) (c .before .before .before .if3 .left) (c .before .before .if4 .left) (c .before .if5 .left)
+returns-6 c =
+    let if1 = c .before .before .before .before .before .if1 in
+    let if2 = c .before .before .before .before .if2 in
+    let if3 = c .before .before .before .if3 in
+    let if4 = c .before .before .if4 in
+    c .mask-kind .ensures ∙ kind-masked _ (if1 .left) (if2 .left) (if3 .left) (if4 .left) (c .before .if5 .left)
 
 pub kind-of-spec : {M : Type 1} → statement M
 kind-of-spec =

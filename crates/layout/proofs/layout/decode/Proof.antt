@@ -58,7 +58,15 @@ word-at-requires c κs = search needs
 -- src/layout.rt:151:1
 returns : tie.Need-returns
 unfolding regsAt
-returns c = simp (c .before .before .before .before .before .before .before .before .before .before .before .before .command-at .ensures, c .before .before .before .before .before .before .before .before .before .before .before .reply-at .ensures, c .before .before .before .before .before .before .before .before .before .before .write-at .ensures, c .before .before .before .before .before .before .before .before .before .drive-at .ensures, c .before .before .before .before .before .long-at .ensures, c .before .before .before .before .long-at2 .ensures, c .before .flag-at .ensures, c .word-at .ensures)
+returns c =
+    let command-at = c .before .before .before .before .before .before .before .before .before .before .before .before .command-at in
+    let reply-at = c .before .before .before .before .before .before .before .before .before .before .before .reply-at in
+    let write-at = c .before .before .before .before .before .before .before .before .before .before .write-at in
+    let drive-at = c .before .before .before .before .before .before .before .before .before .drive-at in
+    let long-at = c .before .before .before .before .before .long-at in
+    let long-at2 = c .before .before .before .before .long-at2 in
+    simp
+    (command-at .ensures, reply-at .ensures, write-at .ensures, drive-at .ensures, long-at .ensures, long-at2 .ensures, c .before .flag-at .ensures, c .word-at .ensures)
 
 pub decode-spec : {M : Type 1} → statement M
 decode-spec =

@@ -28,13 +28,21 @@ shared-slice-read-if4 c = search needs
 
 returns-4 : tie.Need-returns-4
 unfolding formed
-returns-4 c = simp (eq-eqb _ _ (c .before .before .before .before .before .before .if1 .left), le-leb _ _ (c .before .before .before .before .if2 .left), le-leb _ _ (c .before .before .if3 .left), lt-leb _ _ (c .if4 .taken))
+returns-4 c =
+    let if1 = c .before .before .before .before .before .before .if1 in
+    let if2 = c .before .before .before .before .if2 in
+    let if3 = c .before .before .if3 in
+    simp (eq-eqb _ _ (if1 .left), le-leb _ _ (if2 .left), le-leb _ _ (if3 .left), lt-leb _ _ (c .if4 .taken))
 
 shared-slice-read-result : tie.Need-shared-slice-read-result
 shared-slice-read-result c = search needs
 
 returns-5 : tie.Need-returns-5
-returns-5 c = formed-all _ (c .before .before .before .before .before .before .before .if1 .left) (c .before .before .before .before .before .if2 .left) (c .before .before .before .if3 .left) (c .before .if4 .left)
+returns-5 c =
+    let if1 = c .before .before .before .before .before .before .before .if1 in
+    let if2 = c .before .before .before .before .before .if2 in
+    let if3 = c .before .before .before .if3 in
+    formed-all _ (if1 .left) (if2 .left) (if3 .left) (c .before .if4 .left)
 
 pub formed-spec : {M : Type 1} → statement M
 formed-spec =

@@ -26,19 +26,25 @@ slice-aggregate-put-byte-4 : tie.Need-slice-aggregate-put-byte-4
 slice-aggregate-put-byte-4 c = search needs
 
 put-byte-requires-4 : tie.Need-put-byte-requires-4
-put-byte-requires-4 c κs = omega (arith, head-length (c .before .before .before .before .before .before .before .before .before .before .before .before .before .before .before .before .before .before .args .head))
+put-byte-requires-4 c κs =
+    let args = c .before .before .before .before .before .before .before .before .before .before .before .before .before .before .before .before .before .before .args in
+    omega (arith, head-length (args .head))
 
 slice-aggregate-put-byte-5 : tie.Need-slice-aggregate-put-byte-5
 slice-aggregate-put-byte-5 c = search needs
 
 put-byte-requires-5 : tie.Need-put-byte-requires-5
-put-byte-requires-5 c κs = omega (arith, head-length (c .before .before .before .before .before .before .before .before .before .before .before .before .before .before .before .before .before .before .before .before .before .before .before .args .head))
+put-byte-requires-5 c κs =
+    let args = c .before .before .before .before .before .before .before .before .before .before .before .before .before .before .before .before .before .before .before .before .before .before .before .args in
+    omega (arith, head-length (args .head))
 
 slice-aggregate-put-word : tie.Need-slice-aggregate-put-word
 slice-aggregate-put-word c = search needs
 
 put-word-requires : tie.Need-put-word-requires
-put-word-requires c κs = omega (arith, head-length (c .before .before .before .before .before .before .before .before .before .before .before .before .before .before .before .before .before .before .before .before .before .before .before .before .before .before .before .before .args .head))
+put-word-requires c κs =
+    let args = c .before .before .before .before .before .before .before .before .before .before .before .before .before .before .before .before .before .before .before .before .before .before .before .before .before .before .before .before .args in
+    omega (arith, head-length (args .head))
 
 same-length : tie.Need-same-length
 same-length c = search needs

@@ -26,7 +26,9 @@ slice-aggregate-put-byte-4 : tie.Need-slice-aggregate-put-byte-4
 slice-aggregate-put-byte-4 c = search needs
 
 put-byte-requires-4 : tie.Need-put-byte-requires-4
-put-byte-requires-4 c κs = omega (arith, id-length (c .before .before .before .before .before .before .before .before .before .before .before .before .before .before .before .before .before .before .args .id))
+put-byte-requires-4 c κs =
+    let args = c .before .before .before .before .before .before .before .before .before .before .before .before .before .before .before .before .before .before .args in
+    omega (arith, id-length (args .id))
 
 same-length : tie.Need-same-length
 same-length c = search needs

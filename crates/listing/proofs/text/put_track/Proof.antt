@@ -10,7 +10,9 @@ put-head-requires : tie.Need-put-head-requires
 put-head-requires c κs = let a = c .before .before .before .args in omega (arith, length-append (headLine (a .head)) (rowLines (a .kind) (a .block .now) 0 (a .head .sectors)))
 
 put-rows-requires : tie.Need-put-rows-requires
-put-rows-requires c κs = let a = c .before .before .before .before .before .before .before .args in omega (arith, length-append (headLine (a .head)) (rowLines (a .kind) (a .block .now) 0 (a .head .sectors)))
+put-rows-requires c κs =
+    let a = c .before .before .before .before .before .before .before .args in
+    omega (arith, length-append (headLine (a .head)) (rowLines (a .kind) (a .block .now) 0 (a .head .sectors)))
 
 same-length : tie.Need-same-length
 same-length c = search needs

@@ -24,7 +24,10 @@ part-requires : tie.Need-part-requires
 part-requires c κs = search needs
 
 copy-in-requires : tie.Need-copy-in-requires
-copy-in-requires c κs = let l : length (c .part .result .now) ≤ c .before .before .before .before .before .before .before .before .before .before .before .before .before .before .args .head .stored = part-short _ _ _ (c .part .ensures) in omega arith
+copy-in-requires c κs =
+    let args = c .before .before .before .before .before .before .before .before .before .before .before .before .before .before .args in
+    let l : length (c .part .result .now) ≤ args .head .stored = part-short _ _ _ (c .part .ensures) in
+    omega arith
 
 same-length : tie.Need-same-length
 same-length c = search needs

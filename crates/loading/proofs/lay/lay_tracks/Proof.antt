@@ -106,7 +106,9 @@ cast-place : tie.Need-cast-place Inv-loop μ-loop
 cast-place c = search needs
 
 add-place : tie.Need-add-place Inv-loop μ-loop
-add-place c = let d = c .before .before .before .before .before .before .before .before .before .before .before in omega (arith, bytes d, d .before .before .before .before .before .before .before .good)
+add-place c =
+    let d = c .before .before .before .before .before .before .before .before .before .before .before in
+    omega (arith, bytes d, d .before .before .before .before .before .before .before .good)
 
 loop-less-2 : tie.Need-loop-less-2 Inv-loop μ-loop
 loop-less-2 c = falls _ _ (handed (c .before .before .before .before .before .before .before .before .before .before .before) .moved)

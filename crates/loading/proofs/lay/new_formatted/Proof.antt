@@ -29,7 +29,10 @@ lay-fresh-requires c κs =
     (omega (arith, d .before .before .before .if1 .left), fresh-room t _ (d .before .before .before .if1 .left) _ (d .before .room-of .ensures .0) (d .if2 .left))
 
 same-length-2 : tie.Need-same-length-2
-same-length-2 c = c .before .before .before .before .lay-fresh .kept .0 ∙ length-set (c .before .before .before .before .before .before .before .before .before .before .before .before .before .args .table .now) 0 40
+same-length-2 c =
+    let args = c .before .before .before .before .before .before .before .before .before .before .before .before .before .args in
+    let lay-fresh = c .before .before .before .before .lay-fresh in
+    lay-fresh .kept .0 ∙ length-set (args .table .now) 0 40
 
 same-length-3 : tie.Need-same-length-3
 same-length-3 c = search needs

@@ -43,16 +43,31 @@ same-length : tie.Need-same-length
 same-length c = search needs
 
 returns : tie.Need-returns
-returns c = λ x. data-part (c .before .before .before .before .before .before .before .before .before .before .before .args .regs) (c .before .before .before .before .before .before .before .before .before .before .before .args .b) (c .before .before .before .before .before .before .before .before .before .before .before .args .held .now) (c .before .before .before .before .before .before .before .before .before .before .before .args .table .now) (c .before .before .before .before .before .before .before .before .before .before .before .args .bytes .now) x (room (c .before .before .before .before .before .before .before .before .before .before .before)) (c .before .before .len .result) _ (c .before .before .len .ensures) (c .before .if1 .taken) (c .done .ensures ∙ ap {B = Written} (λ (y : Regs). record { done = Good; regs = y }) (c .before .before .before .holds .ensures))
+returns c =
+    let start = c .before .before .before .before .before .before .before .before .before .before .before in
+    let args = start .args in
+    let holds = c .before .before .before .holds in
+    let len = c .before .before .len in
+    λ x. data-part (args .regs) (args .b) (args .held .now) (args .table .now) (args .bytes .now) x (room start) (len .result) _ (len .ensures)
+    (c .before .if1 .taken) (c .done .ensures ∙ ap {B = Written} (λ (y : Regs). record { done = Good; regs = y }) (holds .ensures))
 
 slice-reshare-prefix-finish-write : tie.Need-slice-reshare-prefix-finish-write
-slice-reshare-prefix-finish-write c = set-room (c .before .before .before .before .before .before .before .before .before .before .args .held .now) (c .before .before .before .before .before .before .before .before .before .before .args .regs .write .taken) (c .before .before .before .before .before .before .before .before .before .before .args .b) (room (c .before .before .before .before .before .before .before .before .before .before))
+slice-reshare-prefix-finish-write c =
+    let start = c .before .before .before .before .before .before .before .before .before .before in
+    let args = start .args in
+    set-room (args .held .now) (args .regs .write .taken) (args .b) (room start)
 
 slice-aggregate-finish-write : tie.Need-slice-aggregate-finish-write
-slice-aggregate-finish-write c = set-count (c .before .before .before .before .before .before .before .before .before .before .before .args .held .now) (c .before .before .before .before .before .before .before .before .before .before .before .args .regs .write .taken) (c .before .before .before .before .before .before .before .before .before .before .before .args .b) (room (c .before .before .before .before .before .before .before .before .before .before .before))
+slice-aggregate-finish-write c =
+    let start = c .before .before .before .before .before .before .before .before .before .before .before in
+    let args = start .args in
+    set-count (args .held .now) (args .regs .write .taken) (args .b) (room start)
 
 finish-write-requires : tie.Need-finish-write-requires
-finish-write-requires c κs = set-few (c .before .before .before .before .before .before .before .before .before .before .before .before .before .args .held .now) (c .before .before .before .before .before .before .before .before .before .before .before .before .before .args .regs .write .taken) (c .before .before .before .before .before .before .before .before .before .before .before .before .before .args .b) (room (c .before .before .before .before .before .before .before .before .before .before .before .before .before)) (small (c .before .before .before .before .before .before .before .before .before .before .before .before .before))
+finish-write-requires c κs =
+    let start = c .before .before .before .before .before .before .before .before .before .before .before .before .before in
+    let args = start .args in
+    set-few (args .held .now) (args .regs .write .taken) (args .b) (room start) (small start)
 
 enum-told : tie.Need-enum-told
 enum-told c = search needs
@@ -61,7 +76,10 @@ enum-known-done : tie.Need-enum-known-done
 enum-known-done c = search needs
 
 slice-write-held-2 : tie.Need-slice-write-held-2
-slice-write-held-2 c = set-in (c .before .before .before .before .before .before .before .before .before .before .before .before .before .before .before .before .before .before .before .before .before .args .held .now) (c .before .before .before .before .before .before .before .before .before .before .before .before .before .before .before .before .before .before .before .before .before .args .regs .write .taken) (c .before .before .before .before .before .before .before .before .before .before .before .before .before .before .before .before .before .before .before .before .before .args .b) (room (c .before .before .before .before .before .before .before .before .before .before .before .before .before .before .before .before .before .before .before .before .before))
+slice-write-held-2 c =
+    let start = c .before .before .before .before .before .before .before .before .before .before .before .before .before .before .before .before .before .before .before .before .before in
+    let args = start .args in
+    set-in (args .held .now) (args .regs .write .taken) (args .b) (room start)
 
 refused-requires : tie.Need-refused-requires
 refused-requires c κs = search needs
@@ -76,7 +94,15 @@ same-length-4 : tie.Need-same-length-4
 same-length-4 c = search needs
 
 returns-2 : tie.Need-returns-2
-returns-2 c = λ x. data-good (c .before .before .before .before .before .before .before .before .before .before .before .before .before .before .before .before .before .before .before .before .args .regs) (c .before .before .before .before .before .before .before .before .before .before .before .before .before .before .before .before .before .before .before .before .args .b) (c .before .before .before .before .before .before .before .before .before .before .before .before .before .before .before .before .before .before .before .before .args .held .now) (c .before .before .before .before .before .before .before .before .before .before .before .before .before .before .before .before .before .before .before .before .args .table .now) (c .before .before .before .before .before .before .before .before .before .before .before .before .before .before .before .before .before .before .before .before .args .bytes .now) x (room (c .before .before .before .before .before .before .before .before .before .before .before .before .before .before .before .before .before .before .before .before)) (c .before .before .before .before .before .before .before .before .before .before .before .len .result) (c .before .before .before .before .before .before .finish-write .result) _ _ (c .before .before .before .before .before .before .before .before .before .before .before .len .ensures) (c .before .before .before .before .before .before .before .before .before .before .if1 .left) (c .before .before .before .before .before .before .before .before .before .before .before .before .holds .result) _ (c .before .before .before .before .before .before .before .before .before .before .before .before .holds .ensures) refl (c .enum-told .given .1) (c .before .before .before .before .before .before .finish-write .ensures)
+returns-2 c =
+    let start = c .before .before .before .before .before .before .before .before .before .before .before .before .before .before .before .before .before .before .before .before in
+    let args = start .args in
+    let holds = c .before .before .before .before .before .before .before .before .before .before .before .before .holds in
+    let len = c .before .before .before .before .before .before .before .before .before .before .before .len in
+    let if1 = c .before .before .before .before .before .before .before .before .before .before .if1 in
+    let finish-write = c .before .before .before .before .before .before .finish-write in
+    λ x. data-good (args .regs) (args .b) (args .held .now) (args .table .now) (args .bytes .now) x (room start) (len .result) (finish-write .result) _ _
+    (len .ensures) (if1 .left) (holds .result) _ (holds .ensures) refl (c .enum-told .given .1) (finish-write .ensures)
 
 same-length-5 : tie.Need-same-length-5
 same-length-5 c = search needs
@@ -88,7 +114,16 @@ same-length-7 : tie.Need-same-length-7
 same-length-7 c = search needs
 
 returns-3 : tie.Need-returns-3
-returns-3 c = λ x. data-refused (c .before .before .before .before .before .before .before .before .before .before .before .before .before .before .before .before .before .before .before .before .before .before .args .regs) (c .before .before .before .before .before .before .before .before .before .before .before .before .before .before .before .before .before .before .before .before .before .before .args .b) (c .before .before .before .before .before .before .before .before .before .before .before .before .before .before .before .before .before .before .before .before .before .before .args .held .now) (c .before .before .before .before .before .before .before .before .before .before .before .before .before .before .before .before .before .before .before .before .before .before .args .table .now) (c .before .before .before .before .before .before .before .before .before .before .before .before .before .before .before .before .before .before .before .before .before .before .args .bytes .now) x (room (c .before .before .before .before .before .before .before .before .before .before .before .before .before .before .before .before .before .before .before .before .before .before)) (c .before .before .before .before .before .before .before .before .before .before .before .before .before .len .result) (c .before .before .before .before .before .before .before .before .finish-write .result) _ _ (c .before .before .before .before .before .before .before .before .before .before .before .before .before .len .ensures) (c .before .before .before .before .before .before .before .before .before .before .before .before .if1 .left) (c .before .before .before .before .before .before .before .before .before .before .before .before .before .before .holds .result) _ (c .before .before .before .before .before .before .before .before .before .before .before .before .before .before .holds .ensures) refl _ _ (c .before .before .done2 .given .1) (c .refused .ensures) (c .before .before .before .before .before .before .before .before .finish-write .ensures)
+returns-3 c =
+    let start = c .before .before .before .before .before .before .before .before .before .before .before .before .before .before .before .before .before .before .before .before .before .before in
+    let args = start .args in
+    let holds = c .before .before .before .before .before .before .before .before .before .before .before .before .before .before .holds in
+    let len = c .before .before .before .before .before .before .before .before .before .before .before .before .before .len in
+    let if1 = c .before .before .before .before .before .before .before .before .before .before .before .before .if1 in
+    let finish-write = c .before .before .before .before .before .before .before .before .finish-write in
+    let done2 = c .before .before .done2 in
+    λ x. data-refused (args .regs) (args .b) (args .held .now) (args .table .now) (args .bytes .now) x (room start) (len .result) (finish-write .result) _
+    _ (len .ensures) (if1 .left) (holds .result) _ (holds .ensures) refl _ _ (done2 .given .1) (c .refused .ensures) (finish-write .ensures)
 
 pub data-byte-spec : {M : Type 1} → statement M
 data-byte-spec =

@@ -24,7 +24,15 @@ reply7-requires c κs = search needs
 
 returns : tie.Need-returns
 unfolding writeReply
-returns c = let q = finish-none (c .before .before .before .before .before .before .before .before .before .before .before .args .regs) (c .before .before .before .before .before .before .before .before .before .before .before .args .table .now) (c .before .before .before .before .before .before .before .before .before .before .before .args .bytes .now) (c .before .before .before .before .before .before .before .before .before .before .before .args .regs .write .c1) (c .before .before .before .before .before .before .before .before .before .before .before .args .regs .write .id) (c .before .before .before .before .before .before .before .before .before .before .before .args .held .now) (c .before .before .before .before .before .before .before .before .before .before .before .pre) (not-true _ (c .if1 .taken)) in ((c .before .before .reply7 .ensures ∙ simp (c .before .before .before .from-c1 .ensures) (ap {B = Written} (λ (x : Regs). record { done = Good; regs = replied (writeReply (c .before .before .before .before .before .before .before .before .before .before .before .args .regs .write .c1) (c .before .before .before .before .before .before .before .before .before .before .before .args .regs .write .id)) x }) (c .before .before .before .before .finished .ensures))) ∙ q .0, q .1)
+returns c =
+    let args = c .before .before .before .before .before .before .before .before .before .before .before .args in
+    let pre = c .before .before .before .before .before .before .before .before .before .before .before .pre in
+    let finished = c .before .before .before .before .finished in
+    let from-c1 = c .before .before .before .from-c1 in
+    let reply7 = c .before .before .reply7 in
+    let q = finish-none (args .regs) (args .table .now) (args .bytes .now) (args .regs .write .c1) (args .regs .write .id) (args .held .now) pre
+    (not-true _ (c .if1 .taken)) in
+    ((reply7 .ensures ∙ simp (from-c1 .ensures) (ap {B = Written} (λ (x : Regs). record { done = Good; regs = replied (writeReply (args .regs .write .c1) (args .regs .write .id)) x }) (finished .ensures))) ∙ q .0, q .1)
 
 save-requires : tie.Need-save-requires
 save-requires c κs = search needs
@@ -48,7 +56,15 @@ same-length-2 : tie.Need-same-length-2
 same-length-2 c = search needs
 
 returns-2 : tie.Need-returns-2
-returns-2 c = let q = finish-ran (c .before .before .before .before .before .before .before .before .before .before .before .before .before .before .before .before .before .before .before .before .before .before .args .regs) (c .before .before .before .before .before .before .before .before .before .before .before .before .before .before .before .before .before .before .before .before .before .before .args .table .now) (c .before .before .before .before .before .before .before .before .before .before .before .before .before .before .before .before .before .before .before .before .before .before .args .bytes .now) (c .before .before .before .before .before .before .before .before .before .before .before .before .before .before .before .before .before .before .before .before .before .before .args .regs .write .c1) (c .before .before .before .before .before .before .before .before .before .before .before .before .before .before .before .before .before .before .before .before .before .before .args .regs .write .id) (c .before .before .before .before .before .before .before .before .before .before .before .before .before .before .before .before .before .before .before .before .before .before .args .held .now) (c .before .before .before .before .before .before .before .before .before .before .before .before .before .before .before .before .before .before .before .before .before .before .pre) _ _ _ _ (not-false _ (c .before .before .before .before .before .before .before .before .before .before .before .if1 .left)) (c .before .before .why .given .1) (c .before .before .before .before .before .before .before .before .save .ensures) in (c .refused .ensures ∙ q .0, q .1)
+returns-2 c =
+    let args = c .before .before .before .before .before .before .before .before .before .before .before .before .before .before .before .before .before .before .before .before .before .before .args in
+    let pre = c .before .before .before .before .before .before .before .before .before .before .before .before .before .before .before .before .before .before .before .before .before .before .pre in
+    let if1 = c .before .before .before .before .before .before .before .before .before .before .before .if1 in
+    let save = c .before .before .before .before .before .before .before .before .save in
+    let why = c .before .before .why in
+    let q = finish-ran (args .regs) (args .table .now) (args .bytes .now) (args .regs .write .c1) (args .regs .write .id) (args .held .now) pre _ _ _ _
+    (not-false _ (if1 .left)) (why .given .1) (save .ensures) in
+    (c .refused .ensures ∙ q .0, q .1)
 
 same-length-3 : tie.Need-same-length-3
 same-length-3 c = search needs
@@ -58,7 +74,17 @@ same-length-4 c = search needs
 
 returns-3 : tie.Need-returns-3
 unfolding writeReply
-returns-3 c = let q = finish-ran (c .before .before .before .before .before .before .before .before .before .before .before .before .before .before .before .before .before .before .before .before .args .regs) (c .before .before .before .before .before .before .before .before .before .before .before .before .before .before .before .before .before .before .before .before .args .table .now) (c .before .before .before .before .before .before .before .before .before .before .before .before .before .before .before .before .before .before .before .before .args .bytes .now) (c .before .before .before .before .before .before .before .before .before .before .before .before .before .before .before .before .before .before .before .before .args .regs .write .c1) (c .before .before .before .before .before .before .before .before .before .before .before .before .before .before .before .before .before .before .before .before .args .regs .write .id) (c .before .before .before .before .before .before .before .before .before .before .before .before .before .before .before .before .before .before .before .before .args .held .now) (c .before .before .before .before .before .before .before .before .before .before .before .before .before .before .before .before .before .before .before .before .pre) _ _ _ _ (not-false _ (c .before .before .before .before .before .before .before .before .before .if1 .left)) (c .enum-told .given .1) (c .before .before .before .before .before .before .save .ensures) in ((c .before .before .before .before .before .before .before .before .before .before .before .reply7 .ensures ∙ simp (c .before .before .before .before .before .before .before .before .before .before .before .before .from-c1 .ensures) (ap {B = Written} (λ (x : Regs). record { done = Good; regs = replied (writeReply (c .before .before .before .before .before .before .before .before .before .before .before .before .before .before .before .before .before .before .before .before .args .regs .write .c1) (c .before .before .before .before .before .before .before .before .before .before .before .before .before .before .before .before .before .before .before .before .args .regs .write .id)) x }) (c .before .before .before .before .before .before .before .before .before .before .before .before .before .finished .ensures))) ∙ q .0, q .1)
+returns-3 c =
+    let args = c .before .before .before .before .before .before .before .before .before .before .before .before .before .before .before .before .before .before .before .before .args in
+    let pre = c .before .before .before .before .before .before .before .before .before .before .before .before .before .before .before .before .before .before .before .before .pre in
+    let finished = c .before .before .before .before .before .before .before .before .before .before .before .before .before .finished in
+    let from-c1 = c .before .before .before .before .before .before .before .before .before .before .before .before .from-c1 in
+    let reply7 = c .before .before .before .before .before .before .before .before .before .before .before .reply7 in
+    let if1 = c .before .before .before .before .before .before .before .before .before .if1 in
+    let save = c .before .before .before .before .before .before .save in
+    let q = finish-ran (args .regs) (args .table .now) (args .bytes .now) (args .regs .write .c1) (args .regs .write .id) (args .held .now) pre _ _ _ _
+    (not-false _ (if1 .left)) (c .enum-told .given .1) (save .ensures) in
+    ((reply7 .ensures ∙ simp (from-c1 .ensures) (ap {B = Written} (λ (x : Regs). record { done = Good; regs = replied (writeReply (args .regs .write .c1) (args .regs .write .id)) x }) (finished .ensures))) ∙ q .0, q .1)
 
 same-length-5 : tie.Need-same-length-5
 same-length-5 c = search needs
@@ -68,7 +94,17 @@ same-length-6 c = search needs
 
 returns-4 : tie.Need-returns-4
 unfolding writeReply
-returns-4 c = let q = finish-ran (c .before .before .before .before .before .before .before .before .before .before .before .before .before .before .before .before .before .before .before .before .args .regs) (c .before .before .before .before .before .before .before .before .before .before .before .before .before .before .before .before .before .before .before .before .args .table .now) (c .before .before .before .before .before .before .before .before .before .before .before .before .before .before .before .before .before .before .before .before .args .bytes .now) (c .before .before .before .before .before .before .before .before .before .before .before .before .before .before .before .before .before .before .before .before .args .regs .write .c1) (c .before .before .before .before .before .before .before .before .before .before .before .before .before .before .before .before .before .before .before .before .args .regs .write .id) (c .before .before .before .before .before .before .before .before .before .before .before .before .before .before .before .before .before .before .before .before .args .held .now) (c .before .before .before .before .before .before .before .before .before .before .before .before .before .before .before .before .before .before .before .before .pre) _ _ _ _ (not-false _ (c .before .before .before .before .before .before .before .before .before .if1 .left)) (c .enum-told2 .given .1) (c .before .before .before .before .before .before .save .ensures) in ((c .before .before .before .before .before .before .before .before .before .before .before .reply7 .ensures ∙ simp (c .before .before .before .before .before .before .before .before .before .before .before .before .from-c1 .ensures) (ap {B = Written} (λ (x : Regs). record { done = Good; regs = replied (writeReply (c .before .before .before .before .before .before .before .before .before .before .before .before .before .before .before .before .before .before .before .before .args .regs .write .c1) (c .before .before .before .before .before .before .before .before .before .before .before .before .before .before .before .before .before .before .before .before .args .regs .write .id)) x }) (c .before .before .before .before .before .before .before .before .before .before .before .before .before .finished .ensures))) ∙ q .0, q .1)
+returns-4 c =
+    let args = c .before .before .before .before .before .before .before .before .before .before .before .before .before .before .before .before .before .before .before .before .args in
+    let pre = c .before .before .before .before .before .before .before .before .before .before .before .before .before .before .before .before .before .before .before .before .pre in
+    let finished = c .before .before .before .before .before .before .before .before .before .before .before .before .before .finished in
+    let from-c1 = c .before .before .before .before .before .before .before .before .before .before .before .before .from-c1 in
+    let reply7 = c .before .before .before .before .before .before .before .before .before .before .before .reply7 in
+    let if1 = c .before .before .before .before .before .before .before .before .before .if1 in
+    let save = c .before .before .before .before .before .before .save in
+    let q = finish-ran (args .regs) (args .table .now) (args .bytes .now) (args .regs .write .c1) (args .regs .write .id) (args .held .now) pre _ _ _ _
+    (not-false _ (if1 .left)) (c .enum-told2 .given .1) (save .ensures) in
+    ((reply7 .ensures ∙ simp (from-c1 .ensures) (ap {B = Written} (λ (x : Regs). record { done = Good; regs = replied (writeReply (args .regs .write .c1) (args .regs .write .id)) x }) (finished .ensures))) ∙ q .0, q .1)
 
 pub finish-write-spec : {M : Type 1} → statement M
 finish-write-spec =

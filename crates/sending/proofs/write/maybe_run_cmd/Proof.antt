@@ -30,7 +30,18 @@ done-requires : tie.Need-done-requires
 done-requires c κs = search needs
 
 returns : tie.Need-returns
-returns c = λ h. ap (λ (a : Written). left a h (c .before .before .before .before .before .before .before .before .before .before .args .table .now) (c .before .before .before .before .before .before .before .before .before .before .args .bytes .now) (c .before .before .before .before .before .before .before .before .before .before .args .transfer .now)) (c .done .ensures ∙ ap {B = Written} (λ (y : Regs). record { done = Good; regs = y }) (c .before .before .before .before .before .before .added .ensures)) ∙ command-part (c .before .before .before .before .before .before .before .before .before .before .args .regs) (c .before .before .before .before .before .before .before .before .before .before .args .b) h (c .before .before .before .before .before .before .before .before .before .before .args .table .now) (c .before .before .before .before .before .before .before .before .before .before .args .bytes .now) (c .before .before .before .before .before .before .before .before .before .before .args .transfer .now) (c .before .before .before .before .before .before .before .before .before .before .pre) (long (c .before .before .before .before .before .before .before .before .before .before)) (c .before .before .before .before .kind-of .result) (c .before .before .before .bytes-for .result) (c .before .before .before .before .kind-of .ensures ∙ ap (λ (y : Regs). kindOf (getD (y .command) 0 0)) (c .before .before .before .before .before .before .added .ensures)) (c .before .before .before .bytes-for .ensures) (λ q. c .before .if1 .taken (ap (λ (y : Regs). y .count) (c .before .before .before .before .before .before .added .ensures) ∙ q))
+returns c =
+    let start = c .before .before .before .before .before .before .before .before .before .before in
+    let args = start .args in
+    let pre = start .pre in
+    let added = c .before .before .before .before .before .before .added in
+    let kind-of = c .before .before .before .before .kind-of in
+    let bytes-for = c .before .before .before .bytes-for in
+    λ h. ap (λ (a : Written). left a h (args .table .now) (args .bytes .now) (args .transfer .now))
+    (c .done .ensures ∙ ap {B = Written} (λ (y : Regs). record { done = Good; regs = y }) (added .ensures))
+    ∙ command-part (args .regs) (args .b) h (args .table .now) (args .bytes .now) (args .transfer .now) pre (long start) (kind-of .result)
+    (bytes-for .result) (kind-of .ensures ∙ ap (λ (y : Regs). kindOf (getD (y .command) 0 0)) (added .ensures)) (bytes-for .ensures)
+    (λ q. c .before .if1 .taken (ap (λ (y : Regs). y .count) (added .ensures) ∙ q))
 
 cleared-requires : tie.Need-cleared-requires
 cleared-requires c κs = search needs
@@ -51,7 +62,19 @@ same-length-3 : tie.Need-same-length-3
 same-length-3 c = search needs
 
 returns-2 : tie.Need-returns-2
-returns-2 c = λ h. command-from (c .before .before .before .before .before .before .before .before .before .before .before .before .before .before .before .before .before .before .before .before .before .args .regs) (c .before .before .before .before .before .before .before .before .before .before .before .before .before .before .before .before .before .before .before .before .before .args .b) h (c .before .before .before .before .before .before .before .before .before .before .before .before .before .before .before .before .before .before .before .before .before .args .table .now) (c .before .before .before .before .before .before .before .before .before .before .before .before .before .before .before .before .before .before .before .before .before .args .bytes .now) (c .before .before .before .before .before .before .before .before .before .before .before .before .before .before .before .before .before .before .before .before .before .args .transfer .now) (c .before .before .before .before .before .before .before .before .before .before .before .before .before .before .before .before .before .before .before .before .before .pre) (long (c .before .before .before .before .before .before .before .before .before .before .before .before .before .before .before .before .before .before .before .before .before)) (c .before .before .before .before .before .before .before .before .before .before .before .before .before .before .before .kind-of .result) (c .before .before .before .before .before .before .before .before .before .before .before .before .before .before .bytes-for .result) (c .before .before .before .before .before .before .before .before .before .before .before .before .before .before .before .kind-of .ensures ∙ ap (λ (y : Regs). kindOf (getD (y .command) 0 0)) (c .before .before .before .before .before .before .before .before .before .before .before .before .before .before .before .before .before .added .ensures)) (c .before .before .before .before .before .before .before .before .before .before .before .before .before .before .bytes-for .ensures) (c .before .before .before .before .before .before .before .before .before .before .before .before .before .before .before .before .before .added .result) (c .before .before .before .before .before .before .before .before .before .before .before .cleared .result) (c .before .before .before .before .before .before .before .run-cmd .result) _ _ _ _ (c .kept .ensures) (c .before .before .before .before .before .before .before .before .before .before .before .before .before .before .before .before .before .added .ensures) (c .before .before .before .before .before .before .before .before .before .before .before .cleared .ensures) (c .before .before .before .before .before .before .before .before .before .before .before .before .if1 .left) (c .before .before .before .before .before .before .before .run-cmd .ensures)
+returns-2 c =
+    let start = c .before .before .before .before .before .before .before .before .before .before .before .before .before .before .before .before .before .before .before .before .before in
+    let args = start .args in
+    let pre = start .pre in
+    let added = c .before .before .before .before .before .before .before .before .before .before .before .before .before .before .before .before .before .added in
+    let kind-of = c .before .before .before .before .before .before .before .before .before .before .before .before .before .before .before .kind-of in
+    let bytes-for = c .before .before .before .before .before .before .before .before .before .before .before .before .before .before .bytes-for in
+    let if1 = c .before .before .before .before .before .before .before .before .before .before .before .before .if1 in
+    let cleared = c .before .before .before .before .before .before .before .before .before .before .before .cleared in
+    let run-cmd = c .before .before .before .before .before .before .before .run-cmd in
+    λ h. command-from (args .regs) (args .b) h (args .table .now) (args .bytes .now) (args .transfer .now) pre (long start) (kind-of .result)
+    (bytes-for .result) (kind-of .ensures ∙ ap (λ (y : Regs). kindOf (getD (y .command) 0 0)) (added .ensures)) (bytes-for .ensures) (added .result)
+    (cleared .result) (run-cmd .result) _ _ _ _ (c .kept .ensures) (added .ensures) (cleared .ensures) (if1 .left) (run-cmd .ensures)
 
 pub maybe-run-cmd-spec : {M : Type 1} → statement M
 maybe-run-cmd-spec =

@@ -15,10 +15,20 @@ same-length : tie.Need-same-length
 same-length c = search needs
 
 returns : tie.Need-returns
-returns c = write-wrong (c .before .before .before .before .before .before .before .before .args .regs) (c .before .before .before .before .before .before .before .before .args .b) (c .before .before .before .before .before .before .before .before .args .held .now) (c .before .before .before .before .before .before .before .before .args .table .now) (c .before .before .before .before .before .before .before .before .args .bytes .now) (c .before .before .before .before .before .before .before .before .args .transfer .now) _ (sym (c .before .before .impossible-in .ensures) ∙ c .before .if1 .taken) (c .refused .ensures)
+returns c =
+    let args = c .before .before .before .before .before .before .before .before .args in
+    let impossible-in = c .before .before .impossible-in in
+    write-wrong (args .regs) (args .b) (args .held .now) (args .table .now) (args .bytes .now) (args .transfer .now) _
+    (sym (impossible-in .ensures) ∙ c .before .if1 .taken) (c .refused .ensures)
 
 data-byte-requires : tie.Need-data-byte-requires
-data-byte-requires c κs = (c .before .before .before .before .before .before .before .before .before .before .before .before .pre, taken-few (c .before .before .before .before .before .before .before .before .before .before .before .before .args .regs .write) (possible (c .before .before .before .before .before .before .before .before .before .before .before .before .args .regs) (possible-in (c .before .before .before .before .before .before .before .before .before .before .before .before .args .transfer .now) (c .before .before .before .before .before .before .before .before .before .before .before .before .args .regs) (sym (c .before .before .before .before .before .before .impossible-in .ensures) ∙ c .before .before .before .before .before .if1 .left)) .write-in) (c .before .before .before .if2 .taken))
+data-byte-requires c κs =
+    let args = c .before .before .before .before .before .before .before .before .before .before .before .before .args in
+    let pre = c .before .before .before .before .before .before .before .before .before .before .before .before .pre in
+    let impossible-in = c .before .before .before .before .before .before .impossible-in in
+    let if1 = c .before .before .before .before .before .if1 in
+    let if2 = c .before .before .before .if2 in
+    (pre, taken-few (args .regs .write) (possible (args .regs) (possible-in (args .transfer .now) (args .regs) (sym (impossible-in .ensures) ∙ if1 .left)) .write-in) (if2 .taken))
 
 same-length-2 : tie.Need-same-length-2
 same-length-2 c = search needs
@@ -33,10 +43,21 @@ same-length-5 : tie.Need-same-length-5
 same-length-5 c = search needs
 
 returns-2 : tie.Need-returns-2
-returns-2 c = left-data (c .before .before .before .before .before .before .before .before .before .before .before .before .before .before .before .before .before .before .before .args .regs) (c .before .before .before .before .before .before .before .before .before .before .before .before .before .before .before .before .before .before .before .args .b) (c .before .before .before .before .before .before .before .before .before .before .before .before .before .before .before .before .before .before .before .args .held .now) (c .before .before .before .before .before .before .before .before .before .before .before .before .before .before .before .before .before .before .before .args .table .now) (c .before .before .before .before .before .before .before .before .before .before .before .before .before .before .before .before .before .before .before .args .bytes .now) (c .before .before .before .before .before .before .before .before .before .before .before .before .before .before .before .before .before .before .before .args .transfer .now) _ (sym (c .before .before .before .before .before .before .before .before .before .before .before .before .before .impossible-in .ensures) ∙ c .before .before .before .before .before .before .before .before .before .before .before .before .if1 .left) (c .before .before .before .before .before .before .before .before .before .before .if2 .taken) (c .before .before .before .before .before .before .data-byte .ensures (c .before .before .before .before .before .before .before .before .before .before .before .before .before .before .before .before .before .before .before .args .transfer .now))
+returns-2 c =
+    let args = c .before .before .before .before .before .before .before .before .before .before .before .before .before .before .before .before .before .before .before .args in
+    let impossible-in = c .before .before .before .before .before .before .before .before .before .before .before .before .before .impossible-in in
+    let if1 = c .before .before .before .before .before .before .before .before .before .before .before .before .if1 in
+    let if2 = c .before .before .before .before .before .before .before .before .before .before .if2 in
+    let data-byte = c .before .before .before .before .before .before .data-byte in
+    left-data (args .regs) (args .b) (args .held .now) (args .table .now) (args .bytes .now) (args .transfer .now) _
+    (sym (impossible-in .ensures) ∙ if1 .left) (if2 .taken) (data-byte .ensures (args .transfer .now))
 
 maybe-run-cmd-requires : tie.Need-maybe-run-cmd-requires
-maybe-run-cmd-requires c κs = count-few (c .before .before .before .before .before .before .before .before .before .before .before .before .args .regs) (possible-in (c .before .before .before .before .before .before .before .before .before .before .before .before .args .transfer .now) (c .before .before .before .before .before .before .before .before .before .before .before .before .args .regs) (sym (c .before .before .before .before .before .before .impossible-in .ensures) ∙ c .before .before .before .before .before .if1 .left))
+maybe-run-cmd-requires c κs =
+    let args = c .before .before .before .before .before .before .before .before .before .before .before .before .args in
+    let impossible-in = c .before .before .before .before .before .before .impossible-in in
+    let if1 = c .before .before .before .before .before .if1 in
+    count-few (args .regs) (possible-in (args .transfer .now) (args .regs) (sym (impossible-in .ensures) ∙ if1 .left))
 
 same-length-6 : tie.Need-same-length-6
 same-length-6 c = search needs
@@ -48,7 +69,14 @@ same-length-8 : tie.Need-same-length-8
 same-length-8 c = search needs
 
 returns-3 : tie.Need-returns-3
-returns-3 c = left-command (c .before .before .before .before .before .before .before .before .before .before .before .before .before .before .before .before .before .before .before .args .regs) (c .before .before .before .before .before .before .before .before .before .before .before .before .before .before .before .before .before .before .before .args .b) (c .before .before .before .before .before .before .before .before .before .before .before .before .before .before .before .before .before .before .before .args .held .now) (c .before .before .before .before .before .before .before .before .before .before .before .before .before .before .before .before .before .before .before .args .table .now) (c .before .before .before .before .before .before .before .before .before .before .before .before .before .before .before .before .before .before .before .args .bytes .now) (c .before .before .before .before .before .before .before .before .before .before .before .before .before .before .before .before .before .before .before .args .transfer .now) _ (sym (c .before .before .before .before .before .before .before .before .before .before .before .before .before .impossible-in .ensures) ∙ c .before .before .before .before .before .before .before .before .before .before .before .before .if1 .left) (c .before .before .before .before .before .before .before .before .before .before .if2 .left) (c .before .before .before .before .before .before .maybe-run-cmd .ensures (c .before .before .before .before .before .before .before .before .before .before .before .before .before .before .before .before .before .before .before .args .held .now))
+returns-3 c =
+    let args = c .before .before .before .before .before .before .before .before .before .before .before .before .before .before .before .before .before .before .before .args in
+    let impossible-in = c .before .before .before .before .before .before .before .before .before .before .before .before .before .impossible-in in
+    let if1 = c .before .before .before .before .before .before .before .before .before .before .before .before .if1 in
+    let if2 = c .before .before .before .before .before .before .before .before .before .before .if2 in
+    let maybe-run-cmd = c .before .before .before .before .before .before .maybe-run-cmd in
+    left-command (args .regs) (args .b) (args .held .now) (args .table .now) (args .bytes .now) (args .transfer .now) _
+    (sym (impossible-in .ensures) ∙ if1 .left) (if2 .left) (maybe-run-cmd .ensures (args .held .now))
 
 pub write-cmd-spec : {M : Type 1} → statement M
 write-cmd-spec =

@@ -51,7 +51,11 @@ enum-known-at : tie.Need-enum-known-at
 enum-known-at c = search needs
 
 row-at-requires : tie.Need-row-at-requires
-row-at-requires c κs = row-near _ _ _ _ _ _ _ _ _ (walkable _ _ (good-here (c .before .before .before .before .before .before .before .before))) (track-here (c .before .before .before .before .before)) (sym (c .before .at .given .1) ∙ c .before .before .before .get-sector-by-idx .ensures)
+row-at-requires c κs =
+    let point = c .before .before .before .before .before .before .before .before in
+    let point′ = c .before .before .before .before .before in
+    let get-sector-by-idx = c .before .before .before .get-sector-by-idx in
+    row-near _ _ _ _ _ _ _ _ _ (walkable _ _ (good-here point)) (track-here point′) (sym (c .before .at .given .1) ∙ get-sector-by-idx .ensures)
 
 returns : tie.Need-returns
 returns c = id-bad _ _ _ _ _ (laid-no _ _ _ (c .before .before .before .room-of .ensures .0) _ (c .before .before .survey .ensures) (c .enum-told .given .1))
@@ -60,10 +64,19 @@ returns-2 : tie.Need-returns-2
 returns-2 c = id-none _ _ _ _ _ (good-here (c .before .before .before)) (sym (c .enum-told3 .given .1) ∙ c .before .before .get-track .ensures)
 
 returns-3 : tie.Need-returns-3
-returns-3 c = id-empty _ _ _ _ _ (good-here (c .before .before .before .before .before .before .before)) _ _ _ (track-here (c .before .before .before .before)) (sym (c .enum-told4 .given .1) ∙ c .before .before .get-sector-by-idx .ensures)
+returns-3 c =
+    let point = c .before .before .before .before .before .before .before in
+    let point′ = c .before .before .before .before in
+    let get-sector-by-idx = c .before .before .get-sector-by-idx in
+    id-empty _ _ _ _ _ (good-here point) _ _ _ (track-here point′) (sym (c .enum-told4 .given .1) ∙ get-sector-by-idx .ensures)
 
 returns-4 : tie.Need-returns-4
-returns-4 c = id-found _ _ _ _ _ (good-here (c .before .before .before .before .before .before .before .before .before .before)) _ _ _ (track-here (c .before .before .before .before .before .before .before)) _ _ _ (sym (c .before .before .before .at .given .1) ∙ c .before .before .before .before .before .get-sector-by-idx .ensures) (c .before .row-at .ensures)
+returns-4 c =
+    let point = c .before .before .before .before .before .before .before .before .before .before in
+    let point′ = c .before .before .before .before .before .before .before in
+    let get-sector-by-idx = c .before .before .before .before .before .get-sector-by-idx in
+    let at = c .before .before .before .at in
+    id-found _ _ _ _ _ (good-here point) _ _ _ (track-here point′) _ _ _ (sym (at .given .1) ∙ get-sector-by-idx .ensures) (c .before .row-at .ensures)
 
 pub id-by-idx-spec : {M : Type 1} → statement M
 id-by-idx-spec =

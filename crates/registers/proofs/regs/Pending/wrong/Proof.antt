@@ -14,10 +14,18 @@ cast-if2 : tie.Need-cast-if2
 cast-if2 c = search needs
 
 returns-2 : tie.Need-returns-2
-returns-2 c = simp (not-false (c .before .before .before .before .before .before .args .self .on) (c .before .before .before .before .if1 .left), sym (c .before .before .len .ensures), le-leb _ _ (c .if2 .taken))
+returns-2 c =
+    let args = c .before .before .before .before .before .before .args in
+    let if1 = c .before .before .before .before .if1 in
+    let len = c .before .before .len in
+    simp (not-false (args .self .on) (if1 .left), sym (len .ensures), le-leb _ _ (c .if2 .taken))
 
 returns-3 : tie.Need-returns-3
-returns-3 c = simp (not-false (c .before .before .before .before .before .before .before .args .self .on) (c .before .before .before .before .before .if1 .left), sym (c .before .before .before .len .ensures), lt-leb _ _ (c .before .if2 .left))
+returns-3 c =
+    let args = c .before .before .before .before .before .before .before .args in
+    let if1 = c .before .before .before .before .before .if1 in
+    let len = c .before .before .before .len in
+    simp (not-false (args .self .on) (if1 .left), sym (len .ensures), lt-leb _ _ (c .before .if2 .left))
 
 pub wrong-spec : {M : Type 1} → statement M
 wrong-spec = tie.close (tie.spec returns len-requires cast-if2 returns-2 returns-3)

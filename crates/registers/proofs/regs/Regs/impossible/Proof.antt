@@ -22,18 +22,36 @@ oversent-requires c κs = search needs
 
 returns-4 : tie.Need-returns-4
 unfolding impossible
-returns-4 c = simp (le-ltb _ _ (c .before .before .before .before .before .before .if1 .left), le-ltb _ _ (c .before .before .before .before .if2 .left), le-ltb _ _ (c .before .before .if3 .left), (sym (c .before .oversent .ensures) ∙ c .if4 .taken))
+returns-4 c =
+    let if1 = c .before .before .before .before .before .before .if1 in
+    let if2 = c .before .before .before .before .if2 in
+    let if3 = c .before .before .if3 in
+    simp (le-ltb _ _ (if1 .left), le-ltb _ _ (if2 .left), le-ltb _ _ (if3 .left), (sym (c .before .oversent .ensures) ∙ c .if4 .taken))
 
 returns-5 : tie.Need-returns-5
 unfolding impossible
-returns-5 c = simp (le-ltb _ _ (c .before .before .before .before .before .before .before .before .if1 .left), le-ltb _ _ (c .before .before .before .before .before .before .if2 .left), le-ltb _ _ (c .before .before .before .before .if3 .left), (sym (c .before .before .before .oversent .ensures) ∙ c .before .before .if4 .left), lt-ltb _ _ (c .if5 .taken))
+returns-5 c =
+    let if1 = c .before .before .before .before .before .before .before .before .if1 in
+    let if2 = c .before .before .before .before .before .before .if2 in
+    let if3 = c .before .before .before .before .if3 in
+    let oversent = c .before .before .before .oversent in
+    let if4 = c .before .before .if4 in
+    simp (le-ltb _ _ (if1 .left), le-ltb _ _ (if2 .left), le-ltb _ _ (if3 .left), (sym (oversent .ensures) ∙ if4 .left), lt-ltb _ _ (c .if5 .taken))
 
 wrong-requires : tie.Need-wrong-requires
 wrong-requires c κs = search needs
 
 returns-6 : tie.Need-returns-6
 unfolding impossible
-returns-6 c = c .wrong .ensures ∙ simp (le-ltb _ _ (c .before .before .before .before .before .before .before .before .before .before .if1 .left), le-ltb _ _ (c .before .before .before .before .before .before .before .before .if2 .left), le-ltb _ _ (c .before .before .before .before .before .before .if3 .left), (sym (c .before .before .before .before .before .oversent .ensures) ∙ c .before .before .before .before .if4 .left), le-ltb _ _ (c .before .before .if5 .left))
+returns-6 c =
+    let if1 = c .before .before .before .before .before .before .before .before .before .before .if1 in
+    let if2 = c .before .before .before .before .before .before .before .before .if2 in
+    let if3 = c .before .before .before .before .before .before .if3 in
+    let oversent = c .before .before .before .before .before .oversent in
+    let if4 = c .before .before .before .before .if4 in
+    let if5 = c .before .before .if5 in
+    c .wrong .ensures
+    ∙ simp (le-ltb _ _ (if1 .left), le-ltb _ _ (if2 .left), le-ltb _ _ (if3 .left), (sym (oversent .ensures) ∙ if4 .left), le-ltb _ _ (if5 .left))
 
 pub impossible-spec : {M : Type 1} → statement M
 impossible-spec =

@@ -11,7 +11,10 @@ use Rattle.registers.proofs.regs.Regs.oversent.Statement.{statement}
 use Rattle.registers.proofs.regs.Regs.oversent.Tie as tie
 
 returns : tie.Need-returns
-returns c = sym (lt-leb (bytesFor (kindOf (getD (c .before .before .args .self .command) 0 0))) (c .before .before .args .self .count) (omega (arith, c .if1 .taken, bytes-range (kindOf (getD (c .before .before .args .self .command) 0 0)) .0)))
+returns c =
+    let args = c .before .before .args in
+    sym
+    (lt-leb (bytesFor (kindOf (getD (args .self .command) 0 0))) (args .self .count) (omega (arith, c .if1 .taken, bytes-range (kindOf (getD (args .self .command) 0 0)) .0)))
 
 array-read-kind-of : tie.Need-array-read-kind-of
 array-read-kind-of c = search needs

@@ -38,10 +38,18 @@ add-result-8 : tie.Need-add-result-8
 add-result-8 c = search needs
 
 returns-4 : tie.Need-returns-4
-returns-4 c = (simp (c .before .before .before .before .before .before .if1 .left, le-ltb _ _ (c .before .before .before .before .if2 .left), le-ltb _ _ (c .before .before .if3 .left), lt-ltb _ _ (c .if4 .taken)), omega arith)
+returns-4 c =
+    let if1 = c .before .before .before .before .before .before .if1 in
+    let if2 = c .before .before .before .before .if2 in
+    let if3 = c .before .before .if3 in
+    (simp (if1 .left, le-ltb _ _ (if2 .left), le-ltb _ _ (if3 .left), lt-ltb _ _ (c .if4 .taken)), omega arith)
 
 returns-5 : tie.Need-returns-5
-returns-5 c = (simp (c .before .before .before .before .before .before .if1 .left, le-ltb _ _ (c .before .before .before .before .if2 .left), le-ltb _ _ (c .before .before .if3 .left), le-ltb _ _ (c .if4 .left)), omega arith)
+returns-5 c =
+    let if1 = c .before .before .before .before .before .before .if1 in
+    let if2 = c .before .before .before .before .if2 in
+    let if3 = c .before .before .if3 in
+    (simp (if1 .left, le-ltb _ _ (if2 .left), le-ltb _ _ (if3 .left), le-ltb _ _ (c .if4 .left)), omega arith)
 
 pub phase-spec : {M : Type 1} → statement M
 phase-spec =

@@ -18,31 +18,54 @@ cast-b : tie.Need-cast-b
 cast-b c = search needs
 
 shared-slice-read-b : tie.Need-shared-slice-read-b
-shared-slice-read-b c = omega (arith, c .before .before .if2 .taken, until-long (c .before .before .before .before .before .before .before .args .transfer .now) (c .before .before .before .before .before .before .before .args .self) (sym (c .before .before .before .before .before .impossible-in .ensures) ∙ c .before .before .before .before .if1 .left))
+shared-slice-read-b c =
+    let args = c .before .before .before .before .before .before .before .args in
+    let impossible-in = c .before .before .before .before .before .impossible-in in
+    let if1 = c .before .before .before .before .if1 in
+    let if2 = c .before .before .if2 in
+    omega (arith, if2 .taken, until-long (args .transfer .now) (args .self) (sym (impossible-in .ensures) ∙ if1 .left))
 
 add-self : tie.Need-add-self
 add-self c = search needs
 
 returns-2 : tie.Need-returns-2
 unfolding dataRead byteFrom regsRead
-returns-2 c = simp ((sym (c .before .before .before .before .before .before .impossible-in .ensures) ∙ c .before .before .before .before .before .if1 .left), lt-ltb _ _ (c .before .before .before .if2 .taken))
+returns-2 c =
+    let impossible-in = c .before .before .before .before .before .before .impossible-in in
+    let if1 = c .before .before .before .before .before .if1 in
+    let if2 = c .before .before .before .if2 in
+    simp ((sym (impossible-in .ensures) ∙ if1 .left), lt-ltb _ _ (if2 .taken))
 
 cast-b-2 : tie.Need-cast-b-2
 cast-b-2 c = search needs
 
 array-read-b : tie.Need-array-read-b
-array-read-b c = omega (arith, c .before .before .if3 .taken, possible (c .before .before .before .before .before .before .before .before .before .args .self) (possible-in (c .before .before .before .before .before .before .before .before .before .args .transfer .now) (c .before .before .before .before .before .before .before .before .before .args .self) (sym (c .before .before .before .before .before .before .before .impossible-in .ensures) ∙ c .before .before .before .before .before .before .if1 .left)) .fill-in)
+array-read-b c =
+    let args = c .before .before .before .before .before .before .before .before .before .args in
+    let impossible-in = c .before .before .before .before .before .before .before .impossible-in in
+    let if1 = c .before .before .before .before .before .before .if1 in
+    let if3 = c .before .before .if3 in
+    omega (arith, if3 .taken, possible (args .self) (possible-in (args .transfer .now) (args .self) (sym (impossible-in .ensures) ∙ if1 .left)) .fill-in)
 
 add-self-2 : tie.Need-add-self-2
 add-self-2 c = search needs
 
 returns-3 : tie.Need-returns-3
 unfolding dataRead byteFrom regsRead
-returns-3 c = simp ((sym (c .before .before .before .before .before .before .before .before .impossible-in .ensures) ∙ c .before .before .before .before .before .before .before .if1 .left), le-ltb _ _ (c .before .before .before .before .before .if2 .left), lt-ltb _ _ (c .before .before .before .if3 .taken))
+returns-3 c =
+    let impossible-in = c .before .before .before .before .before .before .before .before .impossible-in in
+    let if1 = c .before .before .before .before .before .before .before .if1 in
+    let if2 = c .before .before .before .before .before .if2 in
+    let if3 = c .before .before .before .if3 in
+    simp ((sym (impossible-in .ensures) ∙ if1 .left), le-ltb _ _ (if2 .left), lt-ltb _ _ (if3 .taken))
 
 returns-4 : tie.Need-returns-4
 unfolding dataRead byteFrom regsRead
-returns-4 c = simp ((sym (c .before .before .before .before .before .impossible-in .ensures) ∙ c .before .before .before .before .if1 .left), le-ltb _ _ (c .before .before .if2 .left), le-ltb _ _ (c .if3 .left))
+returns-4 c =
+    let impossible-in = c .before .before .before .before .before .impossible-in in
+    let if1 = c .before .before .before .before .if1 in
+    let if2 = c .before .before .if2 in
+    simp ((sym (impossible-in .ensures) ∙ if1 .left), le-ltb _ _ (if2 .left), le-ltb _ _ (c .if3 .left))
 
 pub read-cmd-spec : {M : Type 1} → statement M
 read-cmd-spec =

@@ -30,7 +30,11 @@ add-shown : tie.Need-add-shown
 add-shown c = search needs
 
 polled-requires : tie.Need-polled-requires
-polled-requires c κs = omega (arith, possible (c .before .before .before .before .before .before .before .args .self) (sym (c .before .before .before .before .before .before .impossible .ensures) ∙ c .before .before .before .before .before .if1 .left) .lost-in, ap (λ (y : Regs). y .lost) (c .moved .ensures))
+polled-requires c κs =
+    let args = c .before .before .before .before .before .before .before .args in
+    let impossible = c .before .before .before .before .before .before .impossible in
+    let if1 = c .before .before .before .before .before .if1 in
+    omega (arith, possible (args .self) (sym (impossible .ensures) ∙ if1 .left) .lost-in, ap (λ (y : Regs). y .lost) (c .moved .ensures))
 
 settled-requires : tie.Need-settled-requires
 settled-requires c κs = search needs
