@@ -55,8 +55,7 @@ impl Regs {
     fn phase(self) -> u8
         ensures { λ r. ⌜ (r ≡ phase (self .write .on) (ltb (self .from) (self .until)) (ltb (self .place) (self .fill)) (ltb 0 (self .count))) × (r < 255) ⌝ }
     {
-        let write = self.write;
-        if write.on {
+        if self.write.on {
             return MainReg::RQM + MainReg::EXE_MODE + MainReg::BUSY;
         }
         if self.from < self.until {
@@ -76,8 +75,7 @@ impl Regs {
         requires { ⌜ self .lost ≤ 2 ⌝ }
         ensures { λ r. ⌜ r ≡ regsPolled (pollBy (self .write .on) (ltb (self .from) (self .until)) (eqb (self .lost) 2)) self ⌝ }
     {
-        let write = self.write;
-        if write.on {
+        if self.write.on {
             return self;
         }
         if self.until <= self.from {
@@ -168,8 +166,7 @@ impl Regs {
         if self.impossible() {
             return Byte::Refused(Refusal::BadController);
         }
-        let d = self.drive;
-        Byte::Of(d.cylinder)
+        Byte::Of(self.drive.cylinder)
     }
 
     pub fn disk(self) -> Flag
@@ -178,8 +175,7 @@ impl Regs {
         if self.impossible() {
             return Flag::Refused(Refusal::BadController);
         }
-        let d = self.drive;
-        Flag::Of(d.disk)
+        Flag::Of(self.drive.disk)
     }
 
     // Another disk, or none: all else is carried over.

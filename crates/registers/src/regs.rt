@@ -77,22 +77,6 @@ pub struct Written {
     pub regs: Regs,
 }
 
-impl Pending {
-    // Numbers that no write in progress has.
-    fn wrong(self) -> bool
-        ensures { λ r. ⌜ r ≡ wrongWrite self ⌝ }
-    {
-        if !self.on {
-            return false;
-        }
-        let id = self.id;
-        if id.len() <= self.taken as usize {
-            return true;
-        }
-        self.c1 % 4 != 0
-    }
-}
-
 impl Regs {
     // Whether as much was sent as the command has, or more. Where nothing was sent, no table is asked.
     fn oversent(self) -> bool
@@ -103,6 +87,19 @@ impl Regs {
         }
         let command = self.command;
         bytes_for(kind_of(command[0])) <= self.count
+    }
+
+    // Numbers that no write in progress has.
+    fn wrong_write(self) -> bool
+        ensures { λ r. ⌜ r ≡ wrongWrite (self .write) ⌝ }
+    {
+        if !self.write.on {
+            return false;
+        }
+        if self.write.id.len() <= self.write.taken as usize {
+            return true;
+        }
+        self.write.c1 % 4 != 0
     }
 
     // Numbers that no controller has.
@@ -124,8 +121,7 @@ impl Regs {
         if 2 < self.lost {
             return true;
         }
-        let write = self.write;
-        write.wrong()
+        self.wrong_write()
     }
 
     pub fn done(self) -> Written
@@ -233,11 +229,10 @@ impl Regs {
     pub fn moved(mut self, cylinder: u8, seek: Seek) -> Self
         ensures { λ r. ⌜ r ≡ withDrive (record { cylinder = cylinder; seek = seek; disk = self .drive .disk }) self ⌝ }
     {
-        let d = self.drive;
         let drive = Drive {
             cylinder,
             seek,
-            disk: d.disk,
+            disk: self.drive.disk,
         };
         self.drive = drive;
         self

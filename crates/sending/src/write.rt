@@ -104,8 +104,7 @@ pub fn write_cmd(
     if regs.impossible_in(transfer) {
         return regs.refused(Refusal::BadController);
     }
-    let write = regs.write;
-    if write.on {
+    if regs.write.on {
         return data_byte(regs, b, held, table, bytes);
     }
     maybe_run_cmd(regs, b, table, bytes, transfer)

@@ -23,10 +23,10 @@ returns c =
 
 data-byte-requires : tie.Need-data-byte-requires
 data-byte-requires c κs =
-    let args = c .before .before .before .before .before .before .before .before .before .before .before .before .args in
-    let pre = c .before .before .before .before .before .before .before .before .before .before .before .before .pre in
-    let impossible-in = c .before .before .before .before .before .before .impossible-in in
-    let if1 = c .before .before .before .before .before .if1 in
+    let args = c .before .before .before .before .before .before .before .before .before .before .before .args in
+    let pre = c .before .before .before .before .before .before .before .before .before .before .before .pre in
+    let impossible-in = c .before .before .before .before .before .impossible-in in
+    let if1 = c .before .before .before .before .if1 in
     let if2 = c .before .before .before .if2 in
     (pre, taken-few (args .regs .write) (possible (args .regs) (possible-in (args .transfer .now) (args .regs) (sym (impossible-in .ensures) ∙ if1 .left)) .write-in) (if2 .taken))
 
@@ -44,9 +44,9 @@ same-length-5 c = search needs
 
 returns-2 : tie.Need-returns-2
 returns-2 c =
-    let args = c .before .before .before .before .before .before .before .before .before .before .before .before .before .before .before .before .before .before .before .args in
-    let impossible-in = c .before .before .before .before .before .before .before .before .before .before .before .before .before .impossible-in in
-    let if1 = c .before .before .before .before .before .before .before .before .before .before .before .before .if1 in
+    let args = c .before .before .before .before .before .before .before .before .before .before .before .before .before .before .before .before .before .before .args in
+    let impossible-in = c .before .before .before .before .before .before .before .before .before .before .before .before .impossible-in in
+    let if1 = c .before .before .before .before .before .before .before .before .before .before .before .if1 in
     let if2 = c .before .before .before .before .before .before .before .before .before .before .if2 in
     let data-byte = c .before .before .before .before .before .before .data-byte in
     left-data (args .regs) (args .b) (args .held .now) (args .table .now) (args .bytes .now) (args .transfer .now) _
@@ -54,9 +54,9 @@ returns-2 c =
 
 maybe-run-cmd-requires : tie.Need-maybe-run-cmd-requires
 maybe-run-cmd-requires c κs =
-    let args = c .before .before .before .before .before .before .before .before .before .before .before .before .args in
-    let impossible-in = c .before .before .before .before .before .before .impossible-in in
-    let if1 = c .before .before .before .before .before .if1 in
+    let args = c .before .before .before .before .before .before .before .before .before .before .before .args in
+    let impossible-in = c .before .before .before .before .before .impossible-in in
+    let if1 = c .before .before .before .before .if1 in
     count-few (args .regs) (possible-in (args .transfer .now) (args .regs) (sym (impossible-in .ensures) ∙ if1 .left))
 
 same-length-6 : tie.Need-same-length-6
@@ -70,9 +70,9 @@ same-length-8 c = search needs
 
 returns-3 : tie.Need-returns-3
 returns-3 c =
-    let args = c .before .before .before .before .before .before .before .before .before .before .before .before .before .before .before .before .before .before .before .args in
-    let impossible-in = c .before .before .before .before .before .before .before .before .before .before .before .before .before .impossible-in in
-    let if1 = c .before .before .before .before .before .before .before .before .before .before .before .before .if1 in
+    let args = c .before .before .before .before .before .before .before .before .before .before .before .before .before .before .before .before .before .before .args in
+    let impossible-in = c .before .before .before .before .before .before .before .before .before .before .before .before .impossible-in in
+    let if1 = c .before .before .before .before .before .before .before .before .before .before .before .if1 in
     let if2 = c .before .before .before .before .before .before .before .before .before .before .if2 in
     let maybe-run-cmd = c .before .before .before .before .before .before .maybe-run-cmd in
     left-command (args .regs) (args .b) (args .held .now) (args .table .now) (args .bytes .now) (args .transfer .now) _

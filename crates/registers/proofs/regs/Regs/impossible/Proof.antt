@@ -38,19 +38,19 @@ returns-5 c =
     let if4 = c .before .before .if4 in
     simp (le-ltb _ _ (if1 .left), le-ltb _ _ (if2 .left), le-ltb _ _ (if3 .left), (sym (oversent .ensures) ∙ if4 .left), lt-ltb _ _ (c .if5 .taken))
 
-wrong-requires : tie.Need-wrong-requires
-wrong-requires c κs = search needs
+wrong-write-requires : tie.Need-wrong-write-requires
+wrong-write-requires c κs = search needs
 
 returns-6 : tie.Need-returns-6
 unfolding impossible
 returns-6 c =
-    let if1 = c .before .before .before .before .before .before .before .before .before .before .if1 in
-    let if2 = c .before .before .before .before .before .before .before .before .if2 in
-    let if3 = c .before .before .before .before .before .before .if3 in
-    let oversent = c .before .before .before .before .before .oversent in
-    let if4 = c .before .before .before .before .if4 in
-    let if5 = c .before .before .if5 in
-    c .wrong .ensures
+    let if1 = c .before .before .before .before .before .before .before .before .before .if1 in
+    let if2 = c .before .before .before .before .before .before .before .if2 in
+    let if3 = c .before .before .before .before .before .if3 in
+    let oversent = c .before .before .before .before .oversent in
+    let if4 = c .before .before .before .if4 in
+    let if5 = c .before .if5 in
+    c .wrong-write .ensures
     ∙ simp (le-ltb _ _ (if1 .left), le-ltb _ _ (if2 .left), le-ltb _ _ (if3 .left), (sym (oversent .ensures) ∙ if4 .left), le-ltb _ _ (if5 .left))
 
 pub impossible-spec : {M : Type 1} → statement M
@@ -63,5 +63,5 @@ impossible-spec =
     oversent-requires
     returns-4
     returns-5
-    wrong-requires
+    wrong-write-requires
     returns-6)
