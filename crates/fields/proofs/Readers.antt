@@ -4,7 +4,7 @@ use Prim.Native.Nat.{ℕ, _+_, _-_, _*_, _≤_, _<_}
 use native.Mathlib.Omega.{arith}
 use mathlib.Core.List.{List}
 use mathlib.Core.Bool.{Bool, true, false, cond}
-use lib.ListN.{length, take, drop}
+use lib.ListN.{length, take, drop, List·getD-eq-default}
 use lib.Dec.{leb, ltb}
 use borrow.Author.Tests.{lt-ltb, le-ltb, lt-leb, le-leb, ltb-true, ltb-false}
 use Rattle.fields.specs.Bytes.{byteAt, numberAt, textAt, readOf, stringOf}
@@ -30,6 +30,10 @@ number-1 b at = omega arith
 pub number-2 : (b : List ℕ) (at : ℕ) → byteAt b at + 256 * byteAt b (at + 1) ≡ numberAt 2 b at
 unfolding numberAt
 number-2 b at = omega arith
+
+-- whose second byte is past the end: the first alone
+pub number-cut : (b : List ℕ) (at : ℕ) → length b ≤ at + 1 → byteAt b at ≡ numberAt 2 b at
+number-cut b at h = let e : byteAt b (at + 1) ≡ 0 = List·getD-eq-default b 0 h in omega (arith, number-2 b at)
 
 pub number-4 : (b : List ℕ) (at : ℕ) → numberAt 2 b at + 65536 * numberAt 2 b (at + 2) ≡ numberAt 4 b at
 unfolding numberAt

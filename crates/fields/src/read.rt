@@ -27,14 +27,16 @@ pub fn byte(s: &[u8], at: usize) -> usize
     0
 }
 
-// The number in two bytes, low byte first.
+// The number in two bytes, low byte first. Where the second is past the end, it is the first alone.
 pub fn word(s: &[u8], at: usize) -> usize
     requires { ⌜ at + 1 < 2 ^ 64 ⌝ }
     ensures { λ r. ⌜ (r ≡ numberAt 2 (now (s .entry)) at) × (r < 65536) ⌝ }
 {
-    let low = byte(s, at);
-    let high = byte(s, at + 1);
-    low + 256 * high
+    let next = at + 1;
+    if next < s.len() {
+        return s[at] as usize + 256 * (s[next] as usize);
+    }
+    byte(s, at)
 }
 
 // Whether the slice ends before `width` bytes from `at`.
