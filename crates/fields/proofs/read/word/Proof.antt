@@ -13,26 +13,32 @@ shared-slice-read-result : tie.Need-shared-slice-read-result
 shared-slice-read-result c = search needs
 
 cast-result : tie.Need-cast-result
-cast-result c = omega (arith, c .shared-slice-known2 .given (c .before .before .before .args .at))
+cast-result c =
+    let at = c .before .before .before .args .at in
+    omega (arith, c .shared-slice-known2 .given at, c .shared-slice-known2 .given (at + 1))
 
 shared-slice-read-result-2 : tie.Need-shared-slice-read-result-2
 shared-slice-read-result-2 c = search needs
 
 cast-result-2 : tie.Need-cast-result-2
-cast-result-2 c = omega (arith, c .shared-slice-known3 .given (c .before .before .before .before .args .at + 1))
+cast-result-2 c =
+    let at = c .before .before .before .before .args .at in
+    omega (arith, c .shared-slice-known3 .given at, c .shared-slice-known3 .given (at + 1))
 
 mul-result : tie.Need-mul-result
-mul-result c = omega (arith, c .shared-slice-known3 .given (c .before .before .before .before .args .at + 1))
+mul-result c =
+    let at = c .before .before .before .before .args .at in
+    omega (arith, c .shared-slice-known3 .given at, c .shared-slice-known3 .given (at + 1))
 
 add-result : tie.Need-add-result
 add-result c =
     let at = c .before .before .before .before .args .at in
-    omega (arith, c .before .shared-slice-known2 .given at, c .shared-slice-known3 .given (at + 1))
+    omega (arith, c .shared-slice-known3 .given at, c .shared-slice-known3 .given (at + 1))
 
 returns : tie.Need-returns
 returns c =
     let a = c .before .before .before .before .args in
-    (number-2 (a .s .now) (a .at), omega (arith, c .before .shared-slice-known2 .given (a .at), c .shared-slice-known3 .given (a .at + 1)))
+    (number-2 (a .s .now) (a .at), omega (arith, c .shared-slice-known3 .given (a .at), c .shared-slice-known3 .given (a .at + 1)))
 
 byte-requires : tie.Need-byte-requires
 byte-requires c κs = search needs
