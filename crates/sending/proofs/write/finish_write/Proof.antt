@@ -1,11 +1,12 @@
-use mathlib.Core.Path.{ap, _∙_}
+use mathlib.Core.Path.{_≡_, ap, _∙_}
 use borrow.Author.Tests.{not-true, not-false}
 use Rattle.store.specs.declared.answer.Done.the-variants.{Good}
 use Rattle.registers.specs.declared.regs.Written.{Written}
 use Rattle.registers.specs.declared.regs.Regs.{Regs}
 use Rattle.commands.proofs.Effects.{finish-none, finish-ran}
 use Rattle.commands.specs.Commands.{writeReply}
-use Rattle.registers.specs.Settle.{replied}
+use Rattle.registers.specs.Boxes.{Finish}
+use Rattle.registers.specs.Settle.{replied, regsChanged}
 use borrow.Author.Needs.{needs}
 use Rattle.sending.proofs.write.finish_write.Statement.{statement}
 use Rattle.sending.proofs.write.finish_write.Tie as tie
@@ -22,17 +23,23 @@ add-reply7 c = search needs
 reply7-requires : tie.Need-reply7-requires
 reply7-requires c κs = search needs
 
-returns : tie.Need-returns
+-- what the end of a write answers where nothing refuses it
+answered : (c : tie.After-reply7) → let r = c .before .before .before .before .before .before .before .before .before .args .regs in
+    c .reply7 .result ≡ record { done = Good; regs = replied (writeReply (r .write .c1) (r .write .id)) (regsChanged Finish r) }
 unfolding writeReply
+answered c =
+    let r = c .before .before .before .before .before .before .before .before .before .args .regs in
+    c .reply7 .ensures
+    ∙ simp (c .before .from-c1 .ensures)
+    (ap {B = Written} (λ (x : Regs). record { done = Good; regs = replied (writeReply (r .write .c1) (r .write .id)) x }) (c .before .before .finished .ensures))
+
+returns : tie.Need-returns
 returns c =
     let args = c .before .before .before .before .before .before .before .before .before .before .before .args in
     let pre = c .before .before .before .before .before .before .before .before .before .before .before .pre in
-    let finished = c .before .before .before .before .finished in
-    let from-c1 = c .before .before .before .from-c1 in
-    let reply7 = c .before .before .reply7 in
     let q = finish-none (args .regs) (args .table .now) (args .bytes .now) (args .regs .write .c1) (args .regs .write .id) (args .held .now) pre
     (not-true _ (c .if1 .taken)) in
-    ((reply7 .ensures ∙ simp (from-c1 .ensures) (ap {B = Written} (λ (x : Regs). record { done = Good; regs = replied (writeReply (args .regs .write .c1) (args .regs .write .id)) x }) (finished .ensures))) ∙ q .0, q .1)
+    (answered (c .before .before) ∙ q .0, q .1)
 
 save-requires : tie.Need-save-requires
 save-requires c κs = search needs
@@ -73,18 +80,14 @@ same-length-4 : tie.Need-same-length-4
 same-length-4 c = search needs
 
 returns-3 : tie.Need-returns-3
-unfolding writeReply
 returns-3 c =
     let args = c .before .before .before .before .before .before .before .before .before .before .before .before .before .before .before .before .before .before .before .before .args in
     let pre = c .before .before .before .before .before .before .before .before .before .before .before .before .before .before .before .before .before .before .before .before .pre in
-    let finished = c .before .before .before .before .before .before .before .before .before .before .before .before .before .finished in
-    let from-c1 = c .before .before .before .before .before .before .before .before .before .before .before .before .from-c1 in
-    let reply7 = c .before .before .before .before .before .before .before .before .before .before .before .reply7 in
     let if1 = c .before .before .before .before .before .before .before .before .before .if1 in
     let save = c .before .before .before .before .before .before .save in
     let q = finish-ran (args .regs) (args .table .now) (args .bytes .now) (args .regs .write .c1) (args .regs .write .id) (args .held .now) pre _ _ _ _
     (not-false _ (if1 .left)) (c .enum-told .given .1) (save .ensures) in
-    ((reply7 .ensures ∙ simp (from-c1 .ensures) (ap {B = Written} (λ (x : Regs). record { done = Good; regs = replied (writeReply (args .regs .write .c1) (args .regs .write .id)) x }) (finished .ensures))) ∙ q .0, q .1)
+    (answered (c .before .before .before .before .before .before .before .before .before .before .before) ∙ q .0, q .1)
 
 same-length-5 : tie.Need-same-length-5
 same-length-5 c = search needs
@@ -93,18 +96,14 @@ same-length-6 : tie.Need-same-length-6
 same-length-6 c = search needs
 
 returns-4 : tie.Need-returns-4
-unfolding writeReply
 returns-4 c =
     let args = c .before .before .before .before .before .before .before .before .before .before .before .before .before .before .before .before .before .before .before .before .args in
     let pre = c .before .before .before .before .before .before .before .before .before .before .before .before .before .before .before .before .before .before .before .before .pre in
-    let finished = c .before .before .before .before .before .before .before .before .before .before .before .before .before .finished in
-    let from-c1 = c .before .before .before .before .before .before .before .before .before .before .before .before .from-c1 in
-    let reply7 = c .before .before .before .before .before .before .before .before .before .before .before .reply7 in
     let if1 = c .before .before .before .before .before .before .before .before .before .if1 in
     let save = c .before .before .before .before .before .before .save in
     let q = finish-ran (args .regs) (args .table .now) (args .bytes .now) (args .regs .write .c1) (args .regs .write .id) (args .held .now) pre _ _ _ _
     (not-false _ (if1 .left)) (c .enum-told2 .given .1) (save .ensures) in
-    ((reply7 .ensures ∙ simp (from-c1 .ensures) (ap {B = Written} (λ (x : Regs). record { done = Good; regs = replied (writeReply (args .regs .write .c1) (args .regs .write .id)) x }) (finished .ensures))) ∙ q .0, q .1)
+    (answered (c .before .before .before .before .before .before .before .before .before .before .before) ∙ q .0, q .1)
 
 pub finish-write-spec : {M : Type 1} → statement M
 finish-write-spec =
