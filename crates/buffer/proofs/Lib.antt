@@ -2,3 +2,4 @@
 pub mod Overs
 pub mod Sames
 pub mod Loops
+mod Shifts

@@ -18,8 +18,8 @@ same-refl (x ∷ a) = rw (eq-eqb x x refl) (same-refl a)
 pub same-eq : (a b : List ℕ) → sameBytes a b ≡ true → a ≡ b
 unfolding sameBytes
 same-eq [] [] e = refl
-same-eq [] (y ∷ b) e = let z : _≡_ {A = ℕ} 0 1 = cc in absurd (omega arith)
-same-eq (x ∷ a) [] e = let z : _≡_ {A = ℕ} 0 1 = cc in absurd (omega arith)
+same-eq [] (y ∷ b) e = cc
+same-eq (x ∷ a) [] e = cc
 same-eq (x ∷ a) (y ∷ b) e =
     let both : (eqb x y ≡ true) × (sameBytes a b ≡ true) = and-eq-true-iff (eqb x y) (sameBytes a b) .0 e in
     λ i. eqb-true x y (both .0) i ∷ same-eq a b (both .1) i

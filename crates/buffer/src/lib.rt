@@ -1,4 +1,9 @@
-// The operations on byte slices that every crate above uses: copy, fill, compare, parts.
+// The operations on byte slices that every crate above uses: copy, fill, compare, parts, and moves inside one.
+mod moves;
+
+pub use moves::exchange;
+pub use moves::least;
+pub use moves::shift;
 ghost use mathlib.Core.Path.{_≡_};
 ghost use Prim.Native.Nat.{_+_, _≤_};
 ghost use lib.ListN.{length, take, drop, replicate};

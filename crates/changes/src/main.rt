@@ -24,14 +24,6 @@ fn field_at(fields: &[u8], at: usize) -> u8 {
     fields::byte(fields, at) as u8
 }
 
-// The number in the two bytes at a place, 0 where they are not all there.
-fn word_at(fields: &[u8], at: usize) -> usize {
-    match fields::read_u16(fields, at) {
-        fields::Read::Refused(_) => 0,
-        fields::Read::Number(n) => n as usize,
-    }
-}
-
 // The ID behind an operation's side and cylinder.
 fn id_of(fields: &[u8]) -> SectorId {
     SectorId {
@@ -70,7 +62,10 @@ fn format(fields: &[u8], table: &mut [u8], bytes: &mut [u8]) {
         gap: field_at(fields, 4),
         filler: field_at(fields, 5),
     };
-    match formatting::set_track(table, bytes, track) {
+    let mut space = [0u8; tracks::IDS];
+    let ids: &mut [u8] = &mut space;
+    tracks::number_ids(ids, track.cylinder, track.side, track.size, track.sectors);
+    match formatting::set_track(table, bytes, track, ids) {
         store::Done::Refused(why) => refused(why),
         store::Done::Good => done(table, bytes),
     }
@@ -90,7 +85,7 @@ fn fill_pattern(new: &mut [u8], seed: usize)
 
 // Side, cylinder, ID, length, seed.
 fn save(fields: &[u8], table: &mut [u8], bytes: &mut [u8], new: &mut [u8]) {
-    let len = word_at(fields, 6);
+    let len = fields::word(fields, 6);
     replay::put(b"save");
     show_fields(fields, 6);
     replay::field(len as u64);
@@ -112,23 +107,13 @@ fn save(fields: &[u8], table: &mut [u8], bytes: &mut [u8], new: &mut [u8]) {
     }
 }
 
-// What Read Data replies as st1: the first sector's, with the end of the cylinder where all sizes are as n says, else an overrun.
-fn end_st1(served: disk::Served) -> u64 {
-    let st1 = served.st1;
-    let bits = st1.bits as u64;
-    if served.total == served.sizes {
-        return bits | 128;
-    }
-    bits | 16
-}
-
 fn show_served(served: disk::Served, transfer: &[u8]) {
     let total = served.total;
     let st2 = served.st2;
     replay::field(total as u64);
-    replay::field(end_st1(served));
+    replay::field(served.end_st1() as u64);
     replay::field(st2.bits as u64);
-    replay::field(replay::check_of(buffer::part(transfer, 0, total)));
+    replay::field(replay::check_of(buffer::part(transfer, 0, total)) as u64);
     replay::put(b"\n");
 }
 
@@ -137,7 +122,7 @@ fn read_into(fields: &[u8], table: &[u8], bytes: &[u8], transfer: &mut [u8]) {
     let side = field_at(fields, 0);
     let cylinder = field_at(fields, 1);
     let eot = field_at(fields, 6);
-    match serving::read(table, bytes, side, cylinder, id_of(fields), eot, transfer) {
+    match disk::read(table, bytes, side, cylinder, id_of(fields), eot, transfer) {
         disk::Reading::Refused(why) => refused(why),
         disk::Reading::Missing => replay::put(b" missing\n"),
         disk::Reading::Good(served) => show_served(served, transfer),
@@ -159,7 +144,7 @@ fn read(fields: &[u8], table: &[u8], bytes: &[u8], transfer: &mut [u8]) {
 
 // Side, cylinder, index.
 fn ask_id(fields: &[u8], table: &[u8], bytes: &[u8]) {
-    let idx = word_at(fields, 2) % 65536;
+    let idx = fields::word(fields, 2);
     replay::put(b"id");
     show_fields(fields, 2);
     replay::field(idx as u64);
@@ -241,7 +226,7 @@ fn operations(table: &mut [u8], bytes: &mut [u8], work: &mut [u8]) -> bool {
     if !replay::take(two, 2) {
         return broken();
     }
-    let mut left = word_at(two, 0);
+    let mut left = fields::word(two, 0);
     while 0 < left {
         if !operate(table, bytes, work) {
             return false;

@@ -1,161 +1,148 @@
 -- What each command does, from what the store answers.
 use mathlib.Core.Path.{_≡_, refl, sym, ap, subst, _∙_}
-use Prim.Native.Nat.{ℕ, _+_, _%_, _≤_}
+use Prim.Native.Nat.{ℕ, _≤_}
 use native.Mathlib.Omega.{arith}
-use mathlib.Core.Bool.{Bool, true, false, cond, _&&_}
+use mathlib.Core.Bool.{Bool, true, false, cond}
 use mathlib.Core.List.{List, [], _∷_}
 use lib.ListN.{length}
-use lib.Dec.{eqb, leb}
-use borrow.Author.Tests.{eq-eqb, ne-eqb, le-leb, leb-true}
+use lib.Dec.{leb}
+use borrow.Author.Tests.{le-leb, leb-true}
 use Rattle.buffer.specs.Over.{over}
+use Rattle.fields.specs.Capacities.{mostTransfer, mostHeld}
 use Rattle.fields.specs.Refusals.{Result, refused, good, need, after}
 use Rattle.fields.specs.Model.{Sector, Disk, byteCount}
 use Rattle.fields.specs.declared.id.SectorId.{SectorId}
 use Rattle.fields.specs.declared.refusal.Refusal.the-variants.{NoTransferRoom, NoRoom}
+use Rattle.tracks.specs.Rows.{idsAt, idsFrom}
 use Rattle.store.specs.Find.{Found, nothing, found}
 use Rattle.store.specs.Search.{sectorAt, sectorByIndex, readAt}
 use Rattle.store.specs.Store.{roomOf, transferRoom, contents, diskOf}
 use Rattle.store.specs.Fresh.{formatted}
-use Rattle.disk.specs.Change.{saved, setTrack}
 use Rattle.store.specs.Calls as looks
+use Rattle.disk.specs.Change.{saved, setTrack}
 use Rattle.disk.specs.Calls as calls
 use Rattle.store.specs.declared.answer.Has.{Has}
 use Rattle.store.specs.declared.answer.Has.the-variants as has
 use Rattle.store.specs.declared.answer.IdFound.{IdFound}
 use Rattle.store.specs.declared.answer.IdFound.the-variants as id
+use Rattle.store.specs.declared.answer.Done.{Done}
+use Rattle.store.specs.declared.answer.Done.the-variants as done
 use Rattle.disk.specs.declared.answer.Saved.{Saved}
 use Rattle.disk.specs.declared.answer.Saved.the-variants as saving
 use Rattle.disk.specs.declared.answer.Reading.{Reading}
 use Rattle.disk.specs.declared.answer.Reading.the-variants as reading
-use Rattle.store.specs.declared.answer.Done.{Done}
-use Rattle.store.specs.declared.answer.Done.the-variants as finished
+use Rattle.store.proofs.Checks.{transfer-in}
+use Rattle.codes.specs.Second.{u, headOf}
 use Rattle.registers.specs.declared.regs.Regs.{Regs}
+use Rattle.registers.specs.declared.regs.Drive.{Drive}
 use Rattle.registers.specs.declared.regs.Written.{Written}
-use Rattle.registers.specs.Boxes.{Slot, Empty, Holds, Turn, Start, Finish, Stay, Reply, Serve, Effect}
-use Rattle.commands.specs.Commands.{byte, idOf, sizesOf, u, headOf, named, inDrive, ready, does, puts, missing, seven, senseDrive, readReply, servedAs, readData, startAt, writeData, writeReply, saveAt, written, idAt, readId, formatTrack}
-use Rattle.registers.specs.Settle.{replied, withUnread, regsChanged, regsAll, regsShifted, regsOf}
-use Rattle.commands.specs.Lent.{Stored, transferAfter}
-use Rattle.registers.specs.View.{slotIf, slotOf}
+use Rattle.registers.specs.Boxes.{Empty, Holds, fitted, Named, seven, Turn, Start, Finish, Stay, Reply, ReplyIfNone, Serve, Effect}
+use Rattle.registers.specs.View.{slotIf, settingOf, namedIn, writingOf}
+use Rattle.registers.specs.Settle.{accepted, declined, driveNamed, replied, regsWithUnread, regsChanged, regsAll, regsResponded, regsOf}
+use Rattle.registers.proofs.Drives.{namedAs, drive-shown, drive-empty, drive-holds}
+use Rattle.commands.specs.Commands.{byte, idOf, sizesOf, ready, does, puts, noId, missing, notReady, senseIf, senseDrive, seekIf, seekTo}
+use Rattle.commands.specs.Commands.{readReply, servedAs, readData, startAt, writeData, writeReply, saveAt, written, idGiven, notReadyId, readId, formatOf, formatTrack}
+use Rattle.commands.specs.Lent.{Fills, Stores, readHere, formatHere, writtenHere}
 
--- ---- ready and not
+-- ---- Sense Drive, Recalibrate and Seek
 
-drive-empty : (b f : Bool) (disk : Result Disk) → false ≡ (b && f) → inDrive b (slotIf f disk) ≡ Empty
-drive-empty true true disk e = let z : _≡_ {A = ℕ} 0 1 = cc in absurd (omega arith)
-drive-empty true false disk e = refl
-drive-empty false f disk e = refl
+ready-flag : (f : Bool) (disk : Result Disk) → f ≡ ready (slotIf f disk)
+ready-flag true disk = refl
+ready-flag false disk = refl
 
-drive-holds : (b f : Bool) (disk : Result Disk) → true ≡ (b && f) → inDrive b (slotIf f disk) ≡ Holds disk
-drive-holds true true disk e = refl
-drive-holds true false disk e = let z : _≡_ {A = ℕ} 0 1 = cc in absurd (omega arith)
-drive-holds false f disk e = let z : _≡_ {A = ℕ} 0 1 = cc in absurd (omega arith)
+module _ (r : Regs) (c1 : ℕ) (t b : List ℕ) where
+  pub sense-ran : accepted (replied (senseIf c1 (driveNamed c1 r .cylinder) (driveNamed c1 r .disk)) r)
+      ≡ regsOf (does [] (Reply (senseDrive c1 (namedIn c1 r t b)))) r
+  unfolding regsOf regsAll regsResponded
+  sense-ran =
+      ap (λ (f : Bool). accepted (replied (senseIf c1 (driveNamed c1 r .cylinder) f) r)) (ready-flag (driveNamed c1 r .disk) (diskOf t b))
+      ∙ ap (λ (n : Named). accepted (replied (senseDrive c1 n) r)) (sym (drive-shown r c1 t b))
 
-pub drive-ready : (b f : Bool) (disk : Result Disk) → (b && f) ≡ ready (inDrive b (slotIf f disk))
-drive-ready true true disk = refl
-drive-ready true false disk = refl
-drive-ready false f disk = refl
+  pub seek-ran : (c : ℕ) → regsOf (seekIf (fitted c1) c) r ≡ regsOf (seekTo c (namedIn c1 r t b)) r
+  seek-ran c = ap (λ (n : Named). regsOf (seekTo c n) r) (sym (drive-shown r c1 t b))
 
-module _ (r : Regs) (unit : ℕ) (t b : List ℕ) where
-  pub slot-empty : false ≡ (eqb (unit % 4) 0 && r .drive .disk) → Empty ≡ named unit (slotOf r t b)
-  slot-empty e = sym (drive-empty (eqb (unit % 4) 0) (r .drive .disk) (diskOf t b) e)
+-- ---- the drive that is named, by what the registers tell of it
 
-  pub slot-holds : true ≡ (eqb (unit % 4) 0 && r .drive .disk) → Holds (diskOf t b) ≡ named unit (slotOf r t b)
-  slot-holds e = sym (drive-holds (eqb (unit % 4) 0) (r .drive .disk) (diskOf t b) e)
+module _ (r : Regs) (c1 : ℕ) (t b : List ℕ) (d : Drive) (e : d ≡ driveNamed c1 r) where
+  with-none : (F : Named → Result Effect) → d .disk ≡ false → F (namedAs (fitted c1) d Empty) ≡ F (namedIn c1 r t b)
+  with-none F q = ap F (sym (drive-empty r c1 t b d e q))
 
--- ---- Sense Drive
-
--- the answer, by readiness
-abbrev pub sensedAs : Regs → ℕ → Bool → Written
-sensedAs r unit v = record { done = finished.Good; regs = replied (senseDrive unit (r .drive .cylinder) v) r }
-
-module _ (r : Regs) (unit : ℕ) (p : Bool) where
-  -- and by whether the cylinder is 0
-  abbrev Lit : Bool → Written
-  Lit z = record { done = finished.Good; regs = replied ((unit % 8 + 0x28 + cond z 0x10 0) ∷ []) r }
-
-  pub sense-no : false ≡ p → record { done = finished.Good; regs = replied ((0x80 + unit % 4) ∷ []) r } ≡ sensedAs r unit p
-  unfolding senseDrive
-  sense-no e = ap (sensedAs r unit) e
-
-  pub sense-zero : true ≡ p → r .drive .cylinder ≡ 0 → record { done = finished.Good; regs = replied ((unit % 8 + 0x28 + 0x10) ∷ []) r } ≡ sensedAs r unit p
-  unfolding senseDrive
-  sense-zero e q = ap Lit (sym (eq-eqb _ _ q)) ∙ ap (sensedAs r unit) e
-
-  pub sense-on : true ≡ p → (r .drive .cylinder ≡ 0 → ⊥) → record { done = finished.Good; regs = replied ((unit % 8 + 0x28) ∷ []) r } ≡ sensedAs r unit p
-  unfolding senseDrive
-  sense-on e q =
-      let z : unit % 8 + 0x28 ≡ unit % 8 + 0x28 + 0 = omega arith in
-      ap {B = Written} (λ (n : ℕ). record { done = finished.Good; regs = replied (n ∷ []) r }) z ∙ ap Lit (sym (ne-eqb _ _ q)) ∙ ap (sensedAs r unit) e
+  with-disk : (F : Named → Result Effect) → d .disk ≡ true → F (namedAs (fitted c1) d (Holds (diskOf t b))) ≡ F (namedIn c1 r t b)
+  with-disk F q = ap F (sym (drive-holds r c1 t b d e q))
 
 -- ---- Read ID
 
 -- by what the search answers
 abbrev pub idEffect : ℕ → IdFound → Result Effect
-idEffect unit (id.Refused why) = refused why
-idEffect unit id.Missing = does (Turn ∷ []) (Reply (missing unit))
-idEffect unit (id.Of x) = does (Turn ∷ []) (Reply (seven (u unit) 0 0 x))
+idEffect c1 (id.Refused why) = refused why
+idEffect c1 id.Missing = does (Turn ∷ []) (Reply (missing c1))
+idEffect c1 (id.Of x) = does (Turn ∷ []) (Reply (seven (u c1) 0 0 x))
 
-id-named : (unit : ℕ) (s : Found Sector) → idEffect unit (looks.namedOf s) ≡ idAt unit s
-unfolding idAt
-id-named unit nothing = refl
-id-named unit (found k s) = refl
+id-named : (c1 : ℕ) (s : Found Sector) → idEffect c1 (looks.namedOf s) ≡ idGiven c1 s
+unfolding idGiven
+id-named c1 nothing = refl
+id-named c1 (found k s) = refl
 
-id-disk : (unit cylinder index : ℕ) (disk : Result Disk)
-    → idEffect unit (looks.idOf disk (headOf unit) cylinder index) ≡ readId unit cylinder index (Holds disk)
+id-disk : (c1 index : ℕ) (f : Bool) (d : Drive) (disk : Result Disk)
+    → idEffect c1 (looks.idByIndex disk (headOf c1) (d .cylinder) index) ≡ readId c1 index (namedAs f d (Holds disk))
 unfolding readId
-id-disk unit cylinder index (refused why) = refl
-id-disk unit cylinder index (good d) = id-named unit (sectorByIndex d (headOf unit) cylinder index)
-
-pub id-ran : (r : Regs) (unit : ℕ) (t b : List ℕ) (a : IdFound) → true ≡ (eqb (unit % 4) 0 && r .drive .disk)
-    → a ≡ looks.idOf (diskOf t b) (headOf unit) (r .drive .cylinder) (r .index)
-    → regsOf (idEffect unit a) r ≡ regsOf (readId unit (r .drive .cylinder) (r .index) (named unit (slotOf r t b))) r
-id-ran r unit t b a e f =
-    ap (λ (x : IdFound). regsOf (idEffect unit x) r) f
-    ∙ ap (λ (x : Result Effect). regsOf x r) (id-disk unit (r .drive .cylinder) (r .index) (diskOf t b))
-    ∙ ap (λ (s : Slot). regsOf (readId unit (r .drive .cylinder) (r .index) s) r) (slot-holds r unit t b e)
-
-pub id-none : (r : Regs) (unit : ℕ) (t b : List ℕ) → false ≡ (eqb (unit % 4) 0 && r .drive .disk)
-    → regsOf (readId unit (r .drive .cylinder) (r .index) Empty) r ≡ regsOf (readId unit (r .drive .cylinder) (r .index) (named unit (slotOf r t b))) r
-id-none r unit t b e = ap (λ (s : Slot). regsOf (readId unit (r .drive .cylinder) (r .index) s) r) (slot-empty r unit t b e)
+id-disk c1 index f d (refused why) = refl
+id-disk c1 index f d (good x) = id-named c1 (sectorByIndex x (headOf c1) (d .cylinder) index)
 
 -- ---- Write Data
 
 -- by what the search answers
 abbrev pub startEffect : ℕ → SectorId → Has → Result Effect
-startEffect unit x (has.Refused why) = refused why
-startEffect unit x has.No = does [] (Reply (missing unit))
-startEffect unit x has.Yes = does (Start unit x ∷ []) Stay
+startEffect c1 x (has.Refused why) = refused why
+startEffect c1 x has.No = does [] (Reply (missing c1))
+startEffect c1 x has.Yes = does (Start c1 x ∷ []) Stay
 
-start-found : (unit : ℕ) (x : SectorId) (s : Found Sector) → startEffect unit x (looks.foundOf s) ≡ startAt unit x s
+start-found : (c1 : ℕ) (x : SectorId) (s : Found Sector) → startEffect c1 x (looks.foundOf s) ≡ startAt c1 x s
 unfolding startAt
-start-found unit x nothing = refl
-start-found unit x (found k s) = refl
+start-found c1 x nothing = refl
+start-found c1 x (found k s) = refl
 
-start-disk : (unit : ℕ) (x : SectorId) (cylinder : ℕ) (disk : Result Disk)
-    → startEffect unit x (looks.hasOf disk (headOf unit) cylinder x) ≡ writeData unit x cylinder (Holds disk)
+start-disk : (c1 : ℕ) (x : SectorId) (f : Bool) (d : Drive) (disk : Result Disk)
+    → startEffect c1 x (looks.hasOf disk (headOf c1) (d .cylinder) x) ≡ writeData c1 x (namedAs f d (Holds disk))
 unfolding writeData
-start-disk unit x cylinder (refused why) = refl
-start-disk unit x cylinder (good d) = start-found unit x (sectorAt d (headOf unit) cylinder x)
+start-disk c1 x f d (refused why) = refl
+start-disk c1 x f d (good y) = start-found c1 x (sectorAt y (headOf c1) (d .cylinder) x)
 
-pub start-ran : (r : Regs) (unit : ℕ) (x : SectorId) (t b : List ℕ) (a : Has) → true ≡ (eqb (unit % 4) 0 && r .drive .disk)
-    → a ≡ looks.hasOf (diskOf t b) (headOf unit) (r .drive .cylinder) x
-    → regsOf (startEffect unit x a) r ≡ regsOf (writeData unit x (r .drive .cylinder) (named unit (slotOf r t b))) r
-start-ran r unit x t b a e f =
-    ap (λ (y : Has). regsOf (startEffect unit x y) r) f
-    ∙ ap (λ (y : Result Effect). regsOf y r) (start-disk unit x (r .drive .cylinder) (diskOf t b))
-    ∙ ap (λ (s : Slot). regsOf (writeData unit x (r .drive .cylinder) s) r) (slot-holds r unit t b e)
+module _ (r : Regs) (c1 : ℕ) (t b : List ℕ) (d : Drive) (e : d ≡ driveNamed c1 r) where
+  pub id-none : d .disk ≡ false
+      → regsOf (does [] (ReplyIfNone (notReady c1 notReadyId))) r ≡ regsOf (readId c1 (r .index) (namedIn c1 r t b)) r
+  unfolding readId
+  id-none q = ap (λ (y : Result Effect). regsOf y r) (with-none r c1 t b d e (readId c1 (r .index)) q)
 
-pub start-none : (r : Regs) (unit : ℕ) (x : SectorId) (t b : List ℕ) → false ≡ (eqb (unit % 4) 0 && r .drive .disk)
-    → regsOf (writeData unit x (r .drive .cylinder) Empty) r ≡ regsOf (writeData unit x (r .drive .cylinder) (named unit (slotOf r t b))) r
-start-none r unit x t b e = ap (λ (s : Slot). regsOf (writeData unit x (r .drive .cylinder) s) r) (slot-empty r unit t b e)
+  pub id-ran : d .disk ≡ true → (h : ℕ) → h ≡ headOf c1 → (a a′ : IdFound) → a ≡ a′ → a ≡ looks.idByIndex (diskOf t b) h (d .cylinder) (r .index)
+      → regsOf (idEffect c1 a′) r ≡ regsOf (readId c1 (r .index) (namedIn c1 r t b)) r
+  id-ran q h p a a′ f g =
+      ap (λ (y : Result Effect). regsOf y r)
+      (ap (idEffect c1) (sym f ∙ g ∙ ap (λ (y : ℕ). looks.idByIndex (diskOf t b) y (d .cylinder) (r .index)) p)
+      ∙ id-disk c1 (r .index) (fitted c1) d (diskOf t b)
+      ∙ with-disk r c1 t b d e (readId c1 (r .index)) q)
+
+  pub start-none : (x : SectorId) → d .disk ≡ false
+      → regsOf (does [] (Reply (notReady c1 noId))) r ≡ regsOf (writeData c1 x (namedIn c1 r t b)) r
+  unfolding writeData
+  start-none x q = ap (λ (y : Result Effect). regsOf y r) (with-none r c1 t b d e (writeData c1 x) q)
+
+  pub start-ran : (x : SectorId) → d .disk ≡ true → (h : ℕ) → h ≡ headOf c1 → (a a′ : Has) → a ≡ a′ → a ≡ looks.hasOf (diskOf t b) h (d .cylinder) x
+      → regsOf (startEffect c1 x a′) r ≡ regsOf (writeData c1 x (namedIn c1 r t b)) r
+  start-ran x q h p a a′ f g =
+      ap (λ (y : Result Effect). regsOf y r)
+      (ap (startEffect c1 x) (sym f ∙ g ∙ ap (λ (y : ℕ). looks.hasOf (diskOf t b) y (d .cylinder) x) p)
+      ∙ start-disk c1 x (fitted c1) d (diskOf t b)
+      ∙ with-disk r c1 t b d e (writeData c1 x) q)
 
 -- ---- Read Data
 
 -- by what the read answers
 abbrev pub readRegs : Bool → List ℕ → Reading → Regs → Written
-readRegs deleted command (reading.Refused why) r = record { done = finished.Refused why; regs = r }
-readRegs deleted command reading.Missing r = record { done = finished.Good; regs = replied (missing (byte command 1)) r }
+readRegs deleted command (reading.Refused why) r = declined why r
+readRegs deleted command reading.Missing r = accepted (replied (missing (byte command 1)) r)
 readRegs deleted command (reading.Good got) r =
-    record { done = finished.Good; regs = replied (readReply deleted command (got .total) (got .sizes) (got .st1 .bits) (got .st2 .bits)) (withUnread 0 (got .total) (r .lost) r) }
+    accepted (replied (readReply deleted command (got .total) (got .sizes) (got .st1 .bits) (got .st2 .bits)) (regsWithUnread 0 (got .total) (r .lost) r))
 
 -- the answer, and the transfer buffer, of what was filled
 answer-of : calls.Filled → Reading
@@ -164,10 +151,13 @@ answer-of (calls.filled a x′) = a
 buffer-of : calls.Filled → List ℕ
 buffer-of (calls.filled a x′) = x′
 
-module _ (r : Regs) (deleted : Bool) (command : List ℕ) (x : List ℕ) where
+module _ (r : Regs) (deleted : Bool) (command b x : List ℕ) where
   -- a read's answer and the transfer buffer are the effect's
   abbrev pub Read : Result Effect → Reading → List ℕ → Type 0
-  Read e a x′ = (readRegs deleted command a r ≡ regsOf e r) × (x′ ≡ transferAfter e x)
+  Read e a x′ = Fills e r x (readRegs deleted command a r) x′
+
+  abbrev Served : List Sector → Result Effect
+  Served ss = servedAs (settingOf b x) deleted command ss
 
   read-like : (f : calls.Filled) (e : Result Effect) → Read e (answer-of f) (buffer-of f) → (a : Reading) (x′ : List ℕ) → calls.filled a x′ ≡ f → Read e a x′
   unfolding answer-of buffer-of
@@ -176,54 +166,54 @@ module _ (r : Regs) (deleted : Bool) (command : List ℕ) (x : List ℕ) where
 
   fit-read : (v : Bool) (s : Sector) (ss : List Sector) (f : calls.Filled)
       → f ≡ cond v (calls.filled (calls.readingOf s ss) (over x 0 (contents (s ∷ ss)))) (calls.filled (reading.Refused NoTransferRoom) x)
-      → Read (need v NoTransferRoom (does [] (Serve (contents (s ∷ ss)) (readReply deleted command (length (contents (s ∷ ss))) (sizesOf (s ∷ ss)) (s .st1 .bits) (s .st2 .bits))))) (answer-of f) (buffer-of f)
-  unfolding answer-of buffer-of regsOf regsAll regsShifted
+      → Read (need v NoTransferRoom (does [] (Serve (contents (s ∷ ss))
+      (readReply deleted command (length (contents (s ∷ ss))) (sizesOf (s ∷ ss)) (s .st1 .bits) (s .st2 .bits))))) (answer-of f) (buffer-of f)
+  unfolding answer-of buffer-of regsOf regsAll regsResponded
   fit-read true s ss f q = rw q (refl, refl)
   fit-read false s ss f q = rw q (refl, refl)
 
-  all-read : (ss : List Sector) → Read (servedAs (transferRoom x) deleted command ss) (answer-of (calls.filledOf x ss)) (buffer-of (calls.filledOf x ss))
+  all-read : (ss : List Sector) → Read (Served ss) (answer-of (calls.filledOf x ss)) (buffer-of (calls.filledOf x ss))
   unfolding servedAs
-  all-read [] = unfold answer-of buffer-of regsOf regsAll regsShifted in (refl, refl)
+  all-read [] = unfold answer-of buffer-of regsOf regsAll regsResponded in (refl, refl)
   all-read (s ∷ ss) = fit-read (leb (length (contents (s ∷ ss))) (transferRoom x)) s ss _ refl
 
-  disk-read : (side cylinder eot : ℕ) (n : SectorId) (disk : Result Disk)
-      → Read (after disk (λ d. servedAs (transferRoom x) deleted command (readAt d side cylinder n eot))) (answer-of (calls.filledFrom x side cylinder n eot disk)) (buffer-of (calls.filledFrom x side cylinder n eot disk))
+  disk-read : (side cylinder eot : ℕ) (n : SectorId) (disk : Result Disk) → let f = calls.filledFrom x side cylinder n eot disk in
+      Read (after disk (λ y. Served (readAt y side cylinder n eot))) (answer-of f) (buffer-of f)
   disk-read side cylinder eot n (refused why) = unfold answer-of buffer-of regsOf in (refl, refl)
-  disk-read side cylinder eot n (good d) = all-read (readAt d side cylinder n eot)
+  disk-read side cylinder eot n (good y) = all-read (readAt y side cylinder n eot)
 
-  module _ (t b : List ℕ) where
-    abbrev pub ReadAs : Slot → Result Effect
-    ReadAs s = readData (transferRoom x) deleted command (r .drive .cylinder) s
+  module _ (t : List ℕ) (d : Drive) (e : d ≡ driveNamed (byte command 1) r) where
+    abbrev ReadAs : Named → Result Effect
+    ReadAs = readData (settingOf b x) deleted command
 
-    pub read-ran : (a a′ : Reading) (n : SectorId) (x′ : List ℕ) → true ≡ (eqb (byte command 1 % 4) 0 && r .drive .disk) → a ≡ a′ → n ≡ idOf command
-        → calls.filled a x′ ≡ calls.readOf t b (headOf (byte command 1)) (r .drive .cylinder) n (byte command 6) x
-        → Read (ReadAs (named (byte command 1) (slotOf r t b))) a′ x′
+    pub read-none : d .disk ≡ false
+        → Fills (readHere deleted command r t b x) r x (accepted (replied (notReady (byte command 1) (idOf command)) r)) x
+    unfolding readData regsOf regsAll regsResponded
+    read-none q =
+        subst (λ (y : Result Effect). Fills y r x (accepted (replied (notReady (byte command 1) (idOf command)) r)) x)
+        (with-none r (byte command 1) t b d e ReadAs q) (refl, refl)
+
+    pub read-ran : (h : ℕ) → h ≡ headOf (byte command 1) → (n : SectorId) → n ≡ idOf command
+        → (a a′ : Reading) (x′ : List ℕ) → d .disk ≡ true → a ≡ a′
+        → calls.filled a x′ ≡ calls.readOf t b h (d .cylinder) n (byte command 6) x → Read (readHere deleted command r t b x) a′ x′
     unfolding readData calls.readOf
-    read-ran a a′ n x′ e f g q =
-        let z : calls.filled a′ x′ ≡ calls.readOf t b (headOf (byte command 1)) (r .drive .cylinder) (idOf command) (byte command 6) x =
-        ap (λ (y : Reading). calls.filled y x′) (sym f) ∙ q ∙ ap (λ (m : SectorId). calls.readOf t b (headOf (byte command 1)) (r .drive .cylinder) m (byte command 6) x) g in
-        rw (sym (slot-holds r (byte command 1) t b e))
-        (read-like _ _ (disk-read (headOf (byte command 1)) (r .drive .cylinder) (byte command 6) (idOf command) (diskOf t b)) a′ x′ z)
-
-    pub read-none : false ≡ (eqb (byte command 1 % 4) 0 && r .drive .disk)
-        → (regsOf (ReadAs Empty) r ≡ regsOf (ReadAs (named (byte command 1) (slotOf r t b))) r) × (x ≡ transferAfter (ReadAs (named (byte command 1) (slotOf r t b))) x)
-    unfolding readData
-    read-none e = rw (sym (slot-empty r (byte command 1) t b e)) (refl, refl)
+    read-ran h p n g a a′ x′ q f w =
+        let z : calls.filled a′ x′ ≡ calls.filledFrom x (headOf (byte command 1)) (d .cylinder) (idOf command) (byte command 6) (diskOf t b) =
+        ap (λ (y : Reading). calls.filled y x′) (sym f) ∙ w
+        ∙ (λ i. calls.filledFrom x (p i) (d .cylinder) (g i) (byte command 6) (diskOf t b)) in
+        subst (λ (y : Result Effect). Read y a′ x′) (with-disk r (byte command 1) t b d e ReadAs q)
+        (read-like _ _ (disk-read (headOf (byte command 1)) (d .cylinder) (byte command 6) (idOf command) (diskOf t b)) a′ x′ z)
 
 -- no read is longer than the greatest transfer room
-room-most : (x : List ℕ) → transferRoom x ≤ 65536
-unfolding transferRoom
-room-most x = omega arith
-
 abbrev Short : Reading → Type 0
 Short (reading.Refused why) = Unit {0}
 Short reading.Missing = Unit {0}
-Short (reading.Good got) = got .total ≤ 65536
+Short (reading.Good got) = got .total ≤ mostTransfer
 
 fit-short : (v : Bool) (s : Sector) (ss : List Sector) (x : List ℕ) → leb (length (contents (s ∷ ss))) (transferRoom x) ≡ v
     → Short (answer-of (cond v (calls.filled (calls.readingOf s ss) (over x 0 (contents (s ∷ ss)))) (calls.filled (reading.Refused NoTransferRoom) x)))
 unfolding answer-of
-fit-short true s ss x e = omega (arith, leb-true (length (contents (s ∷ ss))) (transferRoom x) e, room-most x)
+fit-short true s ss x e = omega (arith, leb-true (length (contents (s ∷ ss))) (transferRoom x) e, transfer-in x)
 fit-short false s ss x e = tt
 
 all-short : (x : List ℕ) (ss : List Sector) → Short (answer-of (calls.filledOf x ss))
@@ -234,101 +224,117 @@ disk-short : (x : List ℕ) (side cylinder eot : ℕ) (n : SectorId) (disk : Res
 disk-short x side cylinder eot n (refused why) = unfold answer-of in tt
 disk-short x side cylinder eot n (good d) = all-short x (readAt d side cylinder n eot)
 
-pub read-short : (t b : List ℕ) (side cylinder eot : ℕ) (n : SectorId) (x x′ : List ℕ) (a a′ : Reading) → a ≡ a′ → calls.filled a x′ ≡ calls.readOf t b side cylinder n eot x → Short a′
+pub read-short : (t b : List ℕ) (side cylinder eot : ℕ) (n : SectorId) (x x′ : List ℕ) (a a′ : Reading) → a ≡ a′
+    → calls.filled a x′ ≡ calls.readOf t b side cylinder n eot x → Short a′
 unfolding answer-of calls.readOf
 read-short t b side cylinder eot n x x′ a a′ f e = subst Short (sym (ap answer-of e) ∙ f) (disk-short x side cylinder eot n (diskOf t b))
 
 -- ---- Format
 
-module _ (r : Regs) (t b : List ℕ) where
-  module _ (unit n count gap filler : ℕ) where
-    abbrev pub FormatAs : Slot → Result Effect
-    FormatAs s = formatTrack (roomOf b) unit n count gap filler (r .drive .cylinder) s
+-- the track whose IDs were numbered is the one that the command asks for
+pub track-asked : (command : List ℕ) (cylinder h : ℕ) (ids t b : List ℕ) → h ≡ headOf (byte command 1)
+    → idsAt ids 0 (byte command 3) ≡ idsFrom cylinder h (byte command 2) 1 (byte command 3)
+    → calls.setOf h cylinder (formatted cylinder h (byte command 2) (byte command 4) (byte command 5) (idsAt ids 0 (byte command 3))) t b
+    ≡ calls.setOf (headOf (byte command 1)) cylinder (formatOf command cylinder) t b
+track-asked command cylinder h ids t b p q =
+    ap (λ (xs : List SectorId). calls.setOf h cylinder (formatted cylinder h (byte command 2) (byte command 4) (byte command 5) xs) t b) q
+    ∙ ap (λ (x : ℕ). calls.setOf x cylinder (formatted cylinder x (byte command 2) (byte command 4) (byte command 5)
+    (idsFrom cylinder x (byte command 2) 1 (byte command 3))) t b) p
 
-    -- by what `set_track` answers
-    abbrev pub formatRegs : Done → Written
-    formatRegs (finished.Refused why) = record { done = finished.Refused why; regs = r }
-    formatRegs finished.Good = record { done = finished.Good; regs = replied (u unit ∷ 0 ∷ 0 ∷ 0 ∷ 0 ∷ 0 ∷ n ∷ []) r }
+module _ (r : Regs) (command t b : List ℕ) (d : Drive) (e : d ≡ driveNamed (byte command 1) r) where
+  -- by what `set_track` answers
+  abbrev pub formatRegs : Done → Written
+  formatRegs (done.Refused why) = declined why r
+  formatRegs done.Good = accepted (replied (seven (u (byte command 1)) 0 0 (record { c = 0; h = 0; r = 0; n = byte command 2 })) r)
 
-    abbrev Reply7 : Disk → Result Effect
-    Reply7 new = puts [] new (u unit ∷ 0 ∷ 0 ∷ 0 ∷ 0 ∷ 0 ∷ n ∷ [])
+  abbrev Reply7 : Disk → Result Effect
+  Reply7 new = puts [] new (seven (u (byte command 1)) 0 0 (record { c = 0; h = 0; r = 0; n = byte command 2 }))
 
-    abbrev Formatted : Result Effect → looks.Outcome Done → Type 0
-    Formatted e (looks.outcome a t′ b′) = Stored e r t b (formatRegs a) t′ b′
+  abbrev Formatted : Result Effect → looks.Outcome Done → Type 0
+  Formatted y (looks.outcome a t′ b′) = Stores y r t b (formatRegs a) t′ b′
 
-    laid-formatted : (new : Result Disk) → Formatted (after new Reply7) (looks.laid t b new)
-    unfolding regsOf regsAll regsShifted
-    laid-formatted (refused why) = (refl, (refl, refl))
-    laid-formatted (good d) = (refl, (refl, refl))
+  laid-formatted : (new : Result Disk) → Formatted (after new Reply7) (looks.laid t b new)
+  unfolding regsOf regsAll regsResponded
+  laid-formatted (refused why) = (refl, (refl, refl))
+  laid-formatted (good y) = (refl, (refl, refl))
 
-    disk-formatted : (disk : Result Disk) (F : Disk → Result Disk) → Formatted (after disk (λ d. after (F d) Reply7)) (looks.laid t b (after disk F))
-    disk-formatted (refused why) F = unfold regsOf in (refl, (refl, refl))
-    disk-formatted (good d) F = laid-formatted (F d)
+  disk-formatted : (disk : Result Disk) (F : Disk → Result Disk) → Formatted (after disk (λ y. after (F y) Reply7)) (looks.laid t b (after disk F))
+  disk-formatted (refused why) F = unfold regsOf in (refl, (refl, refl))
+  disk-formatted (good y) F = laid-formatted (F y)
 
-    pub format-ran : (a a′ : Done) (t′ b′ : List ℕ) → true ≡ (eqb (unit % 4) 0 && r .drive .disk) → a ≡ a′
-        → looks.outcome a t′ b′ ≡ calls.setOf (headOf unit) (r .drive .cylinder) (formatted (r .drive .cylinder) (headOf unit) n count gap filler) t b
-        → Stored (FormatAs (named unit (slotOf r t b))) r t b (formatRegs a′) t′ b′
+  module _ (x : List ℕ) where
+    abbrev FormatAs : Named → Result Effect
+    FormatAs = formatTrack (settingOf b x) command
+
+    pub format-none : d .disk ≡ false
+        → let n : SectorId = record { c = d .cylinder; h = headOf (byte command 1); r = 0; n = byte command 2 } in
+        Stores (formatHere command r t b x) r t b (accepted (replied (notReady (byte command 1) n) r)) t b
+    unfolding formatTrack regsOf regsAll regsResponded
+    format-none q =
+        let n : SectorId = record { c = d .cylinder; h = headOf (byte command 1); r = 0; n = byte command 2 } in
+        subst (λ (y : Result Effect). Stores y r t b (accepted (replied (notReady (byte command 1) n) r)) t b)
+        (with-none r (byte command 1) t b d e FormatAs q) (refl, (refl, refl))
+
+    pub format-ran : (a a′ : Done) (t′ b′ : List ℕ) → d .disk ≡ true → a ≡ a′
+        → looks.outcome a t′ b′ ≡ calls.setOf (headOf (byte command 1)) (d .cylinder) (formatOf command (d .cylinder)) t b
+        → Stores (formatHere command r t b x) r t b (formatRegs a′) t′ b′
     unfolding formatTrack calls.setOf
-    format-ran a a′ t′ b′ e f q =
-        rw (sym (slot-holds r unit t b e), sym f)
-        (subst (Formatted (FormatAs (Holds (diskOf t b)))) (sym q)
-        (disk-formatted (diskOf t b) (λ d. looks.fitting (roomOf b) (setTrack (headOf unit) (r .drive .cylinder) (formatted (r .drive .cylinder) (headOf unit) n count gap filler) d))))
+    format-ran a a′ t′ b′ q f w =
+        subst (λ (y : Result Effect). Stores y r t b (formatRegs a′) t′ b′) (with-disk r (byte command 1) t b d e FormatAs q)
+        (subst (λ (y : Done). Stores (FormatAs (namedAs (fitted (byte command 1)) d (Holds (diskOf t b)))) r t b (formatRegs y) t′ b′) f
+        (subst (Formatted (FormatAs (namedAs (fitted (byte command 1)) d (Holds (diskOf t b))))) (sym w)
+        (disk-formatted (diskOf t b) (λ y. looks.fitting (roomOf b) (setTrack (headOf (byte command 1)) (d .cylinder) (formatOf command (d .cylinder)) y)))))
 
-    pub format-none : false ≡ (eqb (unit % 4) 0 && r .drive .disk) → Stored (FormatAs (named unit (slotOf r t b))) r t b (regsOf (FormatAs Empty) r) t b
-    unfolding formatTrack
-    format-none e = rw (sym (slot-empty r unit t b e)) (refl, (refl, refl))
+-- ---- The end of a write
 
-  -- ---- The end of a write
+module _ (r : Regs) (t b held : List ℕ) (few : length held ≤ mostHeld) (d : Drive) (e : d ≡ driveNamed (r .write .c1) r) where
+  abbrev pub Told : Written
+  Told = accepted (replied (writeReply (writingOf (r .write) held)) (regsChanged Finish r))
 
-  module _ (unit : ℕ) (n : SectorId) (new : List ℕ) (few : length new ≤ 1024) where
-    abbrev pub WrittenAs : Slot → Result Effect
-    WrittenAs s = written (roomOf b) unit n new (r .drive .cylinder) s
+  -- by what `save` answers
+  abbrev pub saveRegs : Saved → Written
+  saveRegs (saving.Refused why) = declined why r
+  saveRegs saving.Missing = Told
+  saveRegs saving.Good = Told
 
-    abbrev pub Told : Written
-    Told = record { done = finished.Good; regs = replied (writeReply unit n) (regsChanged Finish r) }
+  abbrev Saving : Result Effect → looks.Outcome Saved → Type 0
+  Saving y (looks.outcome a t′ b′) = Stores y r t b (saveRegs a) t′ b′
 
-    -- by what `save` answers
-    abbrev pub saveRegs : Saved → Written
-    saveRegs (saving.Refused why) = record { done = finished.Refused why; regs = r }
-    saveRegs saving.Missing = Told
-    saveRegs saving.Good = Told
+  put-saved : (v : Bool) (y : Disk)
+      → Saving (need v NoRoom (puts (Finish ∷ []) y (writeReply (writingOf (r .write) held))))
+      (looks.laidAs saving.Refused saving.Good t b (need true NoRoom (need v NoRoom (good y))))
+  unfolding regsOf regsAll regsResponded
+  put-saved true y = (refl, (refl, refl))
+  put-saved false y = (refl, (refl, refl))
 
-    abbrev Saving : Result Effect → looks.Outcome Saved → Type 0
-    Saving e (looks.outcome a t′ b′) = Stored e r t b (saveRegs a) t′ b′
+  module _ (x : List ℕ) where
+    abbrev WrittenAs : Named → Result Effect
+    WrittenAs = written (settingOf b x) (writingOf (r .write) held)
 
-    put-saved : (v : Bool) (d : Disk) → Saving (need v NoRoom (puts (Finish ∷ []) d (writeReply unit n))) (looks.laidAs saving.Refused saving.Good t b (need true NoRoom (need v NoRoom (good d))))
-    unfolding regsOf regsAll regsShifted
-    put-saved true d = (refl, (refl, refl))
-    put-saved false d = (refl, (refl, refl))
-
-    at-saved : (d : Disk) (s : Found Sector) → Saving (saveAt (roomOf b) unit n d s) (calls.saveAt t b (length new) d s)
+    at-saved : (y : Disk) (s : Found Sector) → Saving (saveAt (settingOf b x) (writingOf (r .write) held) y s) (calls.saveFound t b (length held) y s)
     unfolding saveAt
-    at-saved d nothing = unfold regsOf regsAll regsShifted in (refl, (refl, refl))
-    at-saved d (found k s) =
-        let z : leb (length new) 65535 ≡ true = le-leb (length new) 65535 (omega (arith, few)) in
-        rw z (put-saved (leb (byteCount d) (roomOf b)) d)
+    at-saved y nothing = unfold regsOf regsAll regsResponded in (refl, (refl, refl))
+    at-saved y (found k s) =
+        let z : leb (length held) 65535 ≡ true = le-leb (length held) 65535 (omega (arith, few)) in
+        rw z (put-saved (leb (byteCount y) (roomOf b)) y)
 
-    disk-saved : (disk : Result Disk)
-        → Saving (after disk (λ d. saveAt (roomOf b) unit n (saved (headOf unit) (r .drive .cylinder) n new d) (sectorAt d (headOf unit) (r .drive .cylinder) n))) (calls.saveIn t b (headOf unit) (r .drive .cylinder) n new disk)
-    disk-saved (refused why) = unfold regsOf in (refl, (refl, refl))
-    disk-saved (good d) = at-saved (saved (headOf unit) (r .drive .cylinder) n new d) (sectorAt d (headOf unit) (r .drive .cylinder) n)
-
-    flag-holds : (f : Bool) (disk : Result Disk) → f ≡ true → Holds disk ≡ slotIf f disk
-    flag-holds true disk e = refl
-    flag-holds false disk e = let z : _≡_ {A = ℕ} 0 1 = cc in absurd (omega arith)
-
-    flag-empty : (f : Bool) (disk : Result Disk) → f ≡ false → Empty ≡ slotIf f disk
-    flag-empty true disk e = let z : _≡_ {A = ℕ} 0 1 = cc in absurd (omega arith)
-    flag-empty false disk e = refl
-
-    pub finish-ran : (a a′ : Saved) (t′ b′ : List ℕ) → r .drive .disk ≡ true → a ≡ a′
-        → looks.outcome a t′ b′ ≡ calls.saveOf t b (headOf unit) (r .drive .cylinder) n new
-        → Stored (WrittenAs (slotOf r t b)) r t b (saveRegs a′) t′ b′
-    unfolding written calls.saveOf
-    finish-ran a a′ t′ b′ e f q =
-        rw (sym (flag-holds (r .drive .disk) (diskOf t b) e), sym f)
-        (subst (Saving (WrittenAs (Holds (diskOf t b)))) (sym q) (disk-saved (diskOf t b)))
-
-    pub finish-none : r .drive .disk ≡ false → Stored (WrittenAs (slotOf r t b)) r t b Told t b
+    disk-saved : (f : Bool) (disk : Result Disk)
+        → Saving (WrittenAs (namedAs f d (Holds disk))) (calls.saveIn t b (headOf (r .write .c1)) (d .cylinder) (r .write .id) held disk)
     unfolding written
-    finish-none e = rw (sym (flag-empty (r .drive .disk) (diskOf t b) e)) (unfold regsOf regsAll regsShifted in (refl, (refl, refl)))
+    disk-saved f (refused why) = unfold regsOf in (refl, (refl, refl))
+    disk-saved f (good y) =
+        at-saved (saved (headOf (r .write .c1)) (d .cylinder) (r .write .id) held y) (sectorAt y (headOf (r .write .c1)) (d .cylinder) (r .write .id))
+
+    pub finish-none : d .disk ≡ false → Stores (writtenHere held r t b x) r t b Told t b
+    unfolding written regsOf regsAll regsResponded
+    finish-none q = subst (λ (y : Result Effect). Stores y r t b Told t b) (with-none r (r .write .c1) t b d e WrittenAs q) (refl, (refl, refl))
+
+    pub finish-ran : (h : ℕ) → h ≡ headOf (r .write .c1) → (a a′ : Saved) (t′ b′ : List ℕ) → d .disk ≡ true → a ≡ a′
+        → looks.outcome a t′ b′ ≡ calls.saveOf t b h (d .cylinder) (r .write .id) held
+        → Stores (writtenHere held r t b x) r t b (saveRegs a′) t′ b′
+    unfolding calls.saveOf
+    finish-ran h p a a′ t′ b′ q f w =
+        let z : looks.outcome a′ t′ b′ ≡ calls.saveIn t b (headOf (r .write .c1)) (d .cylinder) (r .write .id) held (diskOf t b) =
+        ap (λ (y : Saved). looks.outcome y t′ b′) (sym f) ∙ w ∙ ap (λ (y : ℕ). calls.saveIn t b y (d .cylinder) (r .write .id) held (diskOf t b)) p in
+        subst (λ (y : Result Effect). Stores y r t b (saveRegs a′) t′ b′) (with-disk r (r .write .c1) t b d e WrittenAs q)
+        (subst (Saving (WrittenAs (namedAs (fitted (r .write .c1)) d (Holds (diskOf t b))))) (sym z) (disk-saved (fitted (r .write .c1)) (diskOf t b)))

@@ -1,23 +1,29 @@
 -- What each command does (01, "Commands"). The store is looked at exactly where a definition asks for the disk that a slot holds.
-use Prim.Native.Nat.{ℕ, _+_, _-_, _/_, _%_}
+use Prim.Native.Nat.{ℕ, _+_}
 use mathlib.Core.Bool.{Bool, true, false, cond}
 use mathlib.Core.List.{List, [], _∷_}
 use mathlib.Core.Option.{none, some}
 use lib.ListN.{length, getD}
 use lib.Dec.{eqb, leb}
 use Rattle.fields.specs.Refusals.{Result, good, need, after}
-use Rattle.fields.specs.Model.{sizeOf, Sector, Disk, total, byteCount}
+use Rattle.fields.specs.Bytes.{flipBit}
+use Rattle.fields.specs.Model.{sizeOf, Sector, Track, Disk, total, byteCount}
 use Rattle.fields.specs.declared.id.SectorId.{SectorId}
 use Rattle.fields.specs.declared.refusal.Refusal.the-variants.{NoRoom, NoTransferRoom}
+use Rattle.tracks.specs.Rows.{idsFrom}
 use Rattle.store.specs.Find.{Found, nothing, found}
-use Rattle.store.specs.Search.{sectorAt, sectorByIndex, readAt}
+use Rattle.store.specs.Search.{sectorAt, sectorByIndex, numbered, readAt}
 use Rattle.store.specs.Store.{contents}
 use Rattle.store.specs.Fresh.{formatted}
-use Rattle.disk.specs.Change.{saved, setTrack}
 use Rattle.store.specs.Calls.{fitting}
-use Rattle.kinds.specs.declared.kind.Kind.{Kind}
-use Rattle.kinds.specs.declared.kind.Kind.the-variants.{Specify, SenseDrive, Recalibrate, SenseInterrupt, SeekTo, Version, ReadData, ReadDeleted, WriteData, ReadId, FormatTrack, Unserved, Invalid}
-use Rattle.registers.specs.Boxes.{Setting, Slot, Empty, Holds, Change, MoveTo, Turn, Start, Finish, Shift, Stay, Reply, ReplyIfNone, Seeking, Interrupt, Serve, Effect}
+use Rattle.disk.specs.Change.{saved, setTrack}
+use Rattle.disk.specs.Calls.{endOf}
+use Rattle.codes.specs.Second.{u, driveOf, headOf}
+use Rattle.codes.specs.declared.command.Command.{Command}
+use Rattle.codes.specs.declared.command.Command.the-variants.{Specify, SenseDrive, Recalibrate, SenseInterrupt, SeekTo}
+use Rattle.codes.specs.declared.command.Command.the-variants.{Version, ReadData, ReadDeleted, WriteData, ReadId, FormatTrack, Unserved, Invalid}
+use Rattle.registers.specs.Boxes.{Setting, Slot, Empty, Holds, Drives, Writing, Named, named, seven}
+use Rattle.registers.specs.Boxes.{Change, MoveTo, Turn, Start, Finish, Response, Stay, Reply, ReplyIfNone, Seeking, Interrupt, Serve, Effect}
 
 -- ---- The parts of a command
 
@@ -28,68 +34,51 @@ byte command k = getD command k 0
 abbrev pub idOf : List ℕ → SectorId
 idOf command = record { c = byte command 2; h = byte command 3; r = byte command 4; n = byte command 5 }
 
--- of the second byte c1: u = c1 & 7, the drive and the head
-abbrev pub u : ℕ → ℕ
-u unit = unit % 8
-
-abbrev pub driveOf : ℕ → ℕ
-driveOf unit = unit % 4
-
-abbrev pub headOf : ℕ → ℕ
-headOf unit = unit / 4 % 2
-
 -- ---- Ready or not
 
--- the drive that a command names: any but drive 0 is empty
-abbrev pub inDrive : Bool → Slot → Slot
-inDrive true slot = slot
-inDrive false slot = Empty
-
-abbrev pub named : ℕ → Slot → Slot
-named unit slot = inDrive (eqb (driveOf unit) 0) slot
-
--- whether there is a disk in it, whatever its store looks like
+-- whether there is a disk in a drive, whatever its store looks like
 abbrev pub ready : Slot → Bool
 ready Empty = false
 ready (Holds d) = true
 
+-- not ready means drive not 0, or no disk; ready, the disk is looked at, and 2 comes where its store breaks the layout
+abbrev pub whenReady : Slot → Result Effect → (Disk → Result Effect) → Result Effect
+whenReady Empty e f = e
+whenReady (Holds disk) e f = after disk f
+
 -- ---- Effects
 
--- changes and a shift, with the disk that was there
-abbrev pub does : List Change → Shift → Result Effect
-does xs s = good record { changes = xs; shift = s; put = none }
+-- changes and a response, with the disk that was there
+abbrev pub does : List Change → Response → Result Effect
+does xs x = good record { changes = xs; response = x; put = none }
 
 -- a disk put, and a reply
 abbrev pub puts : List Change → Disk → List ℕ → Result Effect
-puts xs d reply = good record { changes = xs; shift = Reply reply; put = some d }
+puts xs d reply = good record { changes = xs; response = Reply reply; put = some d }
 
 -- ---- Replies
 
+-- FF four times
+abbrev pub noId : SectorId
+noId = record { c = 0xFF; h = 0xFF; r = 0xFF; n = 0xFF }
+
 -- missing = u + 0x40, 01, 00, FF FF FF FF
 unfoldable pub missing : ℕ → List ℕ
-missing unit = (u unit + 0x40) ∷ 0x01 ∷ 0x00 ∷ 0xFF ∷ 0xFF ∷ 0xFF ∷ 0xFF ∷ []
-
--- a reply of seven bytes: st0, st1, st2 and four more
-abbrev pub seven : ℕ → ℕ → ℕ → SectorId → List ℕ
-seven st0 st1 st2 id = st0 ∷ st1 ∷ st2 ∷ id .c ∷ id .h ∷ id .r ∷ id .n ∷ []
+missing c1 = seven (u c1 + 0x40) 0x01 0x00 noId
 
 -- not ready: u + 0xC8, 0, 0 and four more
-abbrev pub notReady : ℕ → ℕ → ℕ → ℕ → ℕ → List ℕ
-notReady unit c h r n = (u unit + 0xC8) ∷ 0 ∷ 0 ∷ c ∷ h ∷ r ∷ n ∷ []
-
--- a byte with a bit (a power of two) added, and with a bit flipped
-unfoldable pub withBit : ℕ → ℕ → ℕ
-withBit bit x = cond (eqb (x / bit % 2) 1) x (x + bit)
-
-unfoldable pub flipBit : ℕ → ℕ → ℕ
-flipBit bit x = cond (eqb (x / bit % 2) 1) (x - bit) (x + bit)
+abbrev pub notReady : ℕ → SectorId → List ℕ
+notReady c1 id = seven (u c1 + 0xC8) 0 0 id
 
 -- ---- 04, Sense Drive
 
 -- drive 0 with disk: (c1 & 7) + 0x28, + 0x10 at cylinder 0; else 0x80 + drive
-unfoldable pub senseDrive : ℕ → ℕ → Bool → List ℕ
-senseDrive unit cylinder true = (u unit + 0x28 + cond (eqb cylinder 0) 0x10 0) ∷ []
-senseDrive unit cylinder false = (0x80 + driveOf unit) ∷ []
+unfoldable pub senseIf : ℕ → ℕ → Bool → List ℕ
+senseIf c1 cylinder true = (u c1 + 0x28 + cond (eqb cylinder 0) 0x10 0) ∷ []
+senseIf c1 cylinder false = (0x80 + driveOf c1) ∷ []
+
+abbrev pub senseDrive : ℕ → Named → List ℕ
+senseDrive c1 d = senseIf c1 (d .cylinder) (ready (d .slot))
 
 -- ---- 07, Recalibrate, and 0F, Seek
 
@@ -98,11 +87,10 @@ unfoldable pub seekIf : Bool → ℕ → Result Effect
 seekIf true c = does (MoveTo c ∷ []) Seeking
 seekIf false c = does [] Stay
 
--- ---- Read and Read Deleted
+abbrev pub seekTo : ℕ → Named → Result Effect
+seekTo c d = seekIf (d .fitted) c
 
--- st1 with 0x80 if the total length equals the sizes by n, else with 0x10
-unfoldable pub endOf : ℕ → ℕ → ℕ → ℕ
-endOf long sizes st1 = withBit (cond (eqb long sizes) 0x80 0x10) st1
+-- ---- Read and Read Deleted
 
 -- Read Deleted flips 0x40 of st2
 unfoldable pub markOf : Bool → ℕ → ℕ
@@ -116,83 +104,95 @@ sizesOf ss = total (λ s. sizeOf (s .id .n)) ss
 -- u + 0x40, st1, st2, c, h, eot, n
 unfoldable pub readReply : Bool → List ℕ → ℕ → ℕ → ℕ → ℕ → List ℕ
 readReply deleted command long sizes st1 st2 =
-    (u (byte command 1) + 0x40) ∷ endOf long sizes st1 ∷ markOf deleted st2 ∷ byte command 2 ∷ byte command 3 ∷ byte command 6 ∷ byte command 5 ∷ []
+    seven (u (byte command 1) + 0x40) (endOf long sizes st1) (markOf deleted st2) (numbered (idOf command) (byte command 6))
 
 -- what was read: nothing is missing; 9 where it exceeds the transfer room; else it replaces the unread data
-unfoldable pub servedAs : ℕ → Bool → List ℕ → List Sector → Result Effect
-servedAs room deleted command [] = does [] (Reply (missing (byte command 1)))
-servedAs room deleted command (s ∷ ss) =
-    need (leb (length (contents (s ∷ ss))) room) NoTransferRoom
-    (does [] (Serve (contents (s ∷ ss)) (readReply deleted command (length (contents (s ∷ ss))) (sizesOf (s ∷ ss)) (s .st1 .bits) (s .st2 .bits))))
+unfoldable pub servedAs : Setting → Bool → List ℕ → List Sector → Result Effect
+servedAs s deleted command [] = does [] (Reply (missing (byte command 1)))
+servedAs s deleted command (x ∷ xs) =
+    need (leb (length (contents (x ∷ xs))) (s .transfer)) NoTransferRoom
+    (does [] (Serve (contents (x ∷ xs))
+    (readReply deleted command (length (contents (x ∷ xs))) (sizesOf (x ∷ xs)) (x .st1 .bits) (x .st2 .bits))))
 
-unfoldable pub readData : ℕ → Bool → List ℕ → ℕ → Slot → Result Effect
-readData room deleted command cylinder Empty =
-    does [] (Reply (notReady (byte command 1) (byte command 2) (byte command 3) (byte command 4) (byte command 5)))
-readData room deleted command cylinder (Holds disk) =
-    after disk (λ d. servedAs room deleted command (readAt d (headOf (byte command 1)) cylinder (idOf command) (byte command 6)))
+-- not ready: u + 0xC8, 0, 0, c, h, r, n
+unfoldable pub readData : Setting → Bool → List ℕ → Named → Result Effect
+readData s deleted command d =
+    whenReady (d .slot) (does [] (Reply (notReady (byte command 1) (idOf command))))
+    (λ disk. servedAs s deleted command (readAt disk (headOf (byte command 1)) (d .cylinder) (idOf command) (byte command 6)))
 
 -- ---- Write
 
 -- found starts the data phase, old reply kept
 unfoldable pub startAt : ℕ → SectorId → Found Sector → Result Effect
-startAt unit id nothing = does [] (Reply (missing unit))
-startAt unit id (found k s) = does (Start unit id ∷ []) Stay
+startAt c1 id nothing = does [] (Reply (missing c1))
+startAt c1 id (found k x) = does (Start c1 id ∷ []) Stay
 
-unfoldable pub writeData : ℕ → SectorId → ℕ → Slot → Result Effect
-writeData unit id cylinder Empty = does [] (Reply (notReady unit 0xFF 0xFF 0xFF 0xFF))
-writeData unit id cylinder (Holds disk) = after disk (λ d. startAt unit id (sectorAt d (headOf unit) cylinder id))
+-- not ready: u + 0xC8, 0, 0, FF four times
+unfoldable pub writeData : ℕ → SectorId → Named → Result Effect
+writeData c1 id d =
+    whenReady (d .slot) (does [] (Reply (notReady c1 noId))) (λ disk. startAt c1 id (sectorAt disk (headOf c1) (d .cylinder) id))
 
 -- after the last byte: u + 0x40, 80, 00, c, h, r, n
-unfoldable pub writeReply : ℕ → SectorId → List ℕ
-writeReply unit id = seven (u unit + 0x40) 0x80 0x00 id
+unfoldable pub writeReply : Writing → List ℕ
+writeReply w = seven (u (w .c1) + 0x40) 0x80 0x00 (w .id)
 
 -- the first match at that moment takes the new bytes, 8 where the stored bytes would exceed the data room; with no match the reply is the same
-unfoldable pub saveAt : ℕ → ℕ → SectorId → Disk → Found Sector → Result Effect
-saveAt room unit id new nothing = does (Finish ∷ []) (Reply (writeReply unit id))
-saveAt room unit id new (found k s) = need (leb (byteCount new) room) NoRoom (puts (Finish ∷ []) new (writeReply unit id))
+unfoldable pub saveAt : Setting → Writing → Disk → Found Sector → Result Effect
+saveAt s w new nothing = does (Finish ∷ []) (Reply (writeReply w))
+saveAt s w new (found k x) = need (leb (byteCount new) (s .room)) NoRoom (puts (Finish ∷ []) new (writeReply w))
 
 -- with no disk the reply is the same
-unfoldable pub written : ℕ → ℕ → SectorId → List ℕ → ℕ → Slot → Result Effect
-written room unit id held cylinder Empty = does (Finish ∷ []) (Reply (writeReply unit id))
-written room unit id held cylinder (Holds disk) =
-    after disk (λ d. saveAt room unit id (saved (headOf unit) cylinder id held d) (sectorAt d (headOf unit) cylinder id))
+unfoldable pub written : Setting → Writing → Named → Result Effect
+written s w d =
+    whenReady (d .slot) (does (Finish ∷ []) (Reply (writeReply w)))
+    (λ disk. saveAt s w (saved (headOf (w .c1)) (d .cylinder) (w .id) (w .held) disk) (sectorAt disk (headOf (w .c1)) (d .cylinder) (w .id)))
 
 -- ---- Read ID
 
 -- u, 0, 0, ID; the index rises, found or not
-unfoldable pub idAt : ℕ → Found Sector → Result Effect
-idAt unit nothing = does (Turn ∷ []) (Reply (missing unit))
-idAt unit (found k s) = does (Turn ∷ []) (Reply (seven (u unit) 0 0 (s .id)))
+unfoldable pub idGiven : ℕ → Found Sector → Result Effect
+idGiven c1 nothing = does (Turn ∷ []) (Reply (missing c1))
+idGiven c1 (found k x) = does (Turn ∷ []) (Reply (seven (u c1) 0 0 (x .id)))
 
--- not ready: only if no reply byte is unread
-unfoldable pub readId : ℕ → ℕ → ℕ → Slot → Result Effect
-readId unit cylinder index Empty = does [] (ReplyIfNone (notReady unit 0 0 0 2))
-readId unit cylinder index (Holds disk) = after disk (λ d. idAt unit (sectorByIndex d (headOf unit) cylinder index))
+-- not ready: u + 0xC8, 0, 0, 0, 0, 0, 2, but only if no reply byte is unread
+abbrev pub notReadyId : SectorId
+notReadyId = record { c = 0; h = 0; r = 0; n = 2 }
+
+unfoldable pub readId : ℕ → ℕ → Named → Result Effect
+readId c1 index d =
+    whenReady (d .slot) (does [] (ReplyIfNone (notReady c1 notReadyId)))
+    (λ disk. idGiven c1 (sectorByIndex disk (headOf c1) (d .cylinder) index))
 
 -- ---- Format
 
--- IDs are cylinder, head, 1 to count, n; filler data; 6, 7, 8; u, 0, 0, 0, 0, 0, n
-unfoldable pub formatTrack : ℕ → ℕ → ℕ → ℕ → ℕ → ℕ → ℕ → Slot → Result Effect
-formatTrack room unit n count gap filler cylinder Empty = does [] (Reply (notReady unit cylinder (headOf unit) 0 n))
-formatTrack room unit n count gap filler cylinder (Holds disk) =
-    after disk (λ d.
-    after (fitting room (setTrack (headOf unit) cylinder (formatted cylinder (headOf unit) n count gap filler) d)) (λ new.
-    puts [] new (u unit ∷ 0 ∷ 0 ∷ 0 ∷ 0 ∷ 0 ∷ n ∷ [])))
+-- the track that a Format asks for: IDs are cylinder, head, 1 to count, n; filler data
+abbrev pub formatOf : List ℕ → ℕ → Track
+formatOf command cylinder =
+    formatted cylinder (headOf (byte command 1)) (byte command 2) (byte command 4) (byte command 5)
+    (idsFrom cylinder (headOf (byte command 1)) (byte command 2) 1 (byte command 3))
+
+-- 6, 7, 8; u, 0, 0, 0, 0, 0, n. Not ready: u + 0xC8, 0, 0, cylinder, head, 0, n
+unfoldable pub formatTrack : Setting → List ℕ → Named → Result Effect
+formatTrack s command d =
+    whenReady (d .slot)
+    (does [] (Reply (notReady (byte command 1) (record { c = d .cylinder; h = headOf (byte command 1); r = 0; n = byte command 2 }))))
+    (λ disk.
+    after (fitting (s .room) (setTrack (headOf (byte command 1)) (d .cylinder) (formatOf command (d .cylinder)) disk)) (λ new.
+    puts [] new (seven (u (byte command 1)) 0 0 (record { c = 0; h = 0; r = 0; n = byte command 2 }))))
 
 -- ---- A whole command
 
-unfoldable pub obeyed : Setting → Kind → List ℕ → ℕ → ℕ → Slot → Result Effect
-obeyed s Specify command cylinder index slot = does [] Stay
-obeyed s SenseDrive command cylinder index slot = does [] (Reply (senseDrive (byte command 1) cylinder (ready (named (byte command 1) slot))))
-obeyed s Recalibrate command cylinder index slot = seekIf (eqb (driveOf (byte command 1)) 0) 0
-obeyed s SeekTo command cylinder index slot = seekIf (eqb (driveOf (byte command 1)) 0) (byte command 2)
-obeyed s SenseInterrupt command cylinder index slot = does [] (Interrupt cylinder)
-obeyed s Version command cylinder index slot = does [] (Reply (0x80 ∷ []))
-obeyed s ReadData command cylinder index slot = readData (s .transfer) false command cylinder (named (byte command 1) slot)
-obeyed s ReadDeleted command cylinder index slot = readData (s .transfer) true command cylinder (named (byte command 1) slot)
-obeyed s WriteData command cylinder index slot = writeData (byte command 1) (idOf command) cylinder (named (byte command 1) slot)
-obeyed s ReadId command cylinder index slot = readId (byte command 1) cylinder index (named (byte command 1) slot)
-obeyed s FormatTrack command cylinder index slot =
-    formatTrack (s .room) (byte command 1) (byte command 2) (byte command 3) (byte command 4) (byte command 5) cylinder (named (byte command 1) slot)
-obeyed s Unserved command cylinder index slot = does [] Stay
-obeyed s Invalid command cylinder index slot = does [] Stay
+unfoldable pub obeyed : Setting → Command → List ℕ → Drives → ℕ → Result Effect
+obeyed s Specify command d index = does [] Stay
+obeyed s SenseDrive command d index = does [] (Reply (senseDrive (byte command 1) (named (byte command 1) d)))
+obeyed s Recalibrate command d index = seekTo 0 (named (byte command 1) d)
+obeyed s SeekTo command d index = seekTo (byte command 2) (named (byte command 1) d)
+obeyed s SenseInterrupt command d index = does [] (Interrupt (d .first .cylinder))
+obeyed s Version command d index = does [] (Reply (0x80 ∷ []))
+obeyed s ReadData command d index = readData s false command (named (byte command 1) d)
+obeyed s ReadDeleted command d index = readData s true command (named (byte command 1) d)
+obeyed s WriteData command d index = writeData (byte command 1) (idOf command) (named (byte command 1) d)
+obeyed s ReadId command d index = readId (byte command 1) index (named (byte command 1) d)
+obeyed s FormatTrack command d index = formatTrack s command (named (byte command 1) d)
+obeyed s Unserved command d index = does [] Stay
+obeyed s Invalid command d index = does [] Stay

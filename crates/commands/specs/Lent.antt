@@ -1,17 +1,20 @@
 -- What a sent byte does to the bytes that are lent: the held bytes, the table, the data and the transfer buffer. A refusal leaves them as they came.
 use mathlib.Core.Path.{_≡_}
 use Prim.Native.Nat.{ℕ}
+use mathlib.Core.Bool.{Bool}
 use mathlib.Core.List.{List}
 use mathlib.Core.Option.{Option, none, some}
 use Rattle.buffer.specs.Over.{over}
 use Rattle.fields.specs.Refusals.{Result, refused, good}
 use Rattle.fields.specs.Model.{Disk}
 use Rattle.store.specs.Store.{tableOf, dataOf}
-use Rattle.store.specs.declared.answer.Done.the-variants as finished
+use Rattle.codes.specs.declared.command.Command.{Command}
 use Rattle.registers.specs.declared.regs.Regs.{Regs}
 use Rattle.registers.specs.declared.regs.Written.{Written}
-use Rattle.registers.specs.Boxes.{Shift, Stay, Reply, ReplyIfNone, Seeking, Interrupt, Serve, Effect, Sent}
-use Rattle.registers.specs.Settle.{regsTaken, heldTaken, regsOf}
+use Rattle.registers.specs.Boxes.{Response, Stay, Reply, ReplyIfNone, Seeking, Interrupt, Serve, Effect, Sent}
+use Rattle.registers.specs.View.{settingOf, writingOf, drivesOf, namedIn}
+use Rattle.registers.specs.Settle.{declined, regsTaken, heldTaken, regsOf}
+use Rattle.commands.specs.Commands.{byte, readData, formatTrack, written, obeyed}
 
 -- a disk that is put is laid over what was there
 abbrev pub tableWith : Option Disk → List ℕ → List ℕ
@@ -23,7 +26,7 @@ dataWith none b = b
 dataWith (some d) b = over b 0 (dataOf d)
 
 -- data that are served are laid from the start, bytes past their total stay
-abbrev pub transferWith : Shift → List ℕ → List ℕ
+abbrev pub transferWith : Response → List ℕ → List ℕ
 transferWith Stay x = x
 transferWith (Reply reply) x = x
 transferWith (ReplyIfNone reply) x = x
@@ -41,14 +44,14 @@ dataAfter (good e) b = dataWith (e .put) b
 
 abbrev pub transferAfter : Result Effect → List ℕ → List ℕ
 transferAfter (refused why) x = x
-transferAfter (good e) x = transferWith (e .shift) x
+transferAfter (good e) x = transferWith (e .response) x
 
 -- an answer and a transfer buffer, and an answer and a store, that are an effect's
-abbrev pub Filled : Result Effect → Regs → List ℕ → Written → List ℕ → Type 0
-Filled e r x a x′ = (a ≡ regsOf e r) × (x′ ≡ transferAfter e x)
+abbrev pub Fills : Result Effect → Regs → List ℕ → Written → List ℕ → Type 0
+Fills e r x a x′ = (a ≡ regsOf e r) × (x′ ≡ transferAfter e x)
 
-abbrev pub Stored : Result Effect → Regs → List ℕ → List ℕ → Written → List ℕ → List ℕ → Type 0
-Stored e r t b a t′ b′ = (a ≡ regsOf e r) × ((t′ ≡ tableAfter e t) × (b′ ≡ dataAfter e b))
+abbrev pub Stores : Result Effect → Regs → List ℕ → List ℕ → Written → List ℕ → List ℕ → Type 0
+Stores e r t b a t′ b′ = (a ≡ regsOf e r) × ((t′ ≡ tableAfter e t) × (b′ ≡ dataAfter e b))
 
 -- what a command, or the end of a write, leaves
 pub data Ran : Type 0 where
@@ -57,11 +60,27 @@ pub data Ran : Type 0 where
 abbrev pub ranOf : Result Effect → Regs → List ℕ → List ℕ → List ℕ → Ran
 ranOf e r t b x = ran (regsOf e r) (tableAfter e t) (dataAfter e b) (transferAfter e x)
 
--- what a byte leaves: the same, and the held bytes
+-- ---- The same of the commands, by the drives that are seen
+
+abbrev pub readHere : Bool → List ℕ → Regs → List ℕ → List ℕ → List ℕ → Result Effect
+readHere deleted command r t b x = readData (settingOf b x) deleted command (namedIn (byte command 1) r t b)
+
+abbrev pub formatHere : List ℕ → Regs → List ℕ → List ℕ → List ℕ → Result Effect
+formatHere command r t b x = formatTrack (settingOf b x) command (namedIn (byte command 1) r t b)
+
+abbrev pub writtenHere : List ℕ → Regs → List ℕ → List ℕ → List ℕ → Result Effect
+writtenHere held r t b x = written (settingOf b x) (writingOf (r .write) held) (namedIn (r .write .c1) r t b)
+
+abbrev pub ranHere : Command → List ℕ → Regs → List ℕ → List ℕ → List ℕ → Ran
+ranHere which command r t b x = ranOf (obeyed (settingOf b x) which command (drivesOf r t b) (r .index)) r t b x
+
+-- ---- What a byte leaves: the same, and the held bytes
+
 pub data Left : Type 0 where
   left : Written → List ℕ → List ℕ → List ℕ → List ℕ → Left
 
 unfoldable pub leftOf : Result Sent → Regs → List ℕ → List ℕ → List ℕ → List ℕ → Left
-leftOf (refused why) r h t b x = left (record { done = finished.Refused why; regs = r }) h t b x
+leftOf (refused why) r h t b x = left (declined why r) h t b x
 leftOf (good s) r h t b x =
-    left (regsOf (good (s .effect)) (regsTaken (s .taking) r)) (heldTaken (s .taking) r h) (tableWith (s .effect .put) t) (dataWith (s .effect .put) b) (transferWith (s .effect .shift) x)
+    left (regsOf (good (s .effect)) (regsTaken (s .taking) r)) (heldTaken (s .taking) r h)
+    (tableWith (s .effect .put) t) (dataWith (s .effect .put) b) (transferWith (s .effect .response) x)

@@ -12,6 +12,7 @@ use Rattle.fields.specs.Refusals.{Result, good, need}
 use Rattle.fields.specs.Model.{Track, Disk, total, sectorCount, byteCount}
 use Rattle.fields.specs.declared.id.SectorId.{SectorId}
 use Rattle.fields.specs.declared.refusal.Refusal.{Refusal}
+use Rattle.fields.proofs.Tests.{never}
 use Rattle.store.specs.Store.{roomOf, tableOf, dataOf, diskOf}
 use Rattle.store.specs.Search.{isTrack, isSector}
 use Rattle.store.specs.Calls.{within, fitting}
@@ -46,7 +47,7 @@ module _ (side cylinder : ℕ) (id : SectorId) (new : List ℕ) (d : Disk) where
 
 need-good : {A : Type 0} (v : Bool) (why : Refusal) (next : Result A) (a : A) → need v why next ≡ good a → (v ≡ true) × (next ≡ good a)
 need-good true why next a e = (refl, e)
-need-good false why next a e = let z : _≡_ {A = ℕ} 0 1 = cc in absurd (omega arith)
+need-good false why next a e = never (cc)
 
 pub record Allowed (room : ℕ) (d : Disk) : Type 0 where
   pub tracks : length d ≤ 204

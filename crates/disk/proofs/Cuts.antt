@@ -11,8 +11,10 @@ use Rattle.buffer.proofs.Overs.{over-join}
 use Rattle.fields.specs.Model.{Sector, Track, Disk}
 use Rattle.tracks.specs.Block.{rowAt, sectorOf}
 use Rattle.fields.specs.declared.id.SectorId.{SectorId}
+use Rattle.fields.proofs.Tests.{never}
 use Rattle.store.specs.Search.{isTrack, isSector}
-use Rattle.store.specs.Store.{rowFor, rowsFor, tracksFor, contents, dataOf, sectorsAt, sumAt, countAt, nextAt, trackSum, trackAt, tracksAt, bytesAt}
+use Rattle.store.specs.Store.{tracksFor, contents, dataOf, sectorsAt, sumAt, countAt, nextAt, trackSum, trackAt, tracksAt, bytesAt}
+use Rattle.tracks.specs.Rows.{rowFor, sectorRow, rowsFor}
 use Rattle.disk.specs.Change.{change}
 use Rattle.store.specs.Spots.{trackHere, rowHere, trackSpot, sectorSpot}
 use Rattle.loading.specs.Laying.{trackFor}
@@ -188,7 +190,7 @@ module _ {A : Type 0} (p : A → Bool) (row part : A → List ℕ) where
 -- ---- the rows and the bytes of a disk, element by element
 
 abbrev pub rowOnly : Sector → List ℕ
-rowOnly s = rowFor s []
+rowOnly s = rowFor (sectorRow s) []
 
 abbrev pub trackPart : Track → List ℕ
 trackPart t = contents (t .sectors)
@@ -196,7 +198,7 @@ trackPart t = contents (t .sectors)
 pub all-rows : (ss : List Sector) → all rowOnly ss ≡ rowsFor ss []
 unfolding all rowsFor
 all-rows [] = refl
-all-rows (s ∷ ss) = ap (rowFor s) (all-rows ss)
+all-rows (s ∷ ss) = ap (rowFor (sectorRow s)) (all-rows ss)
 
 pub all-contents : (ss : List Sector) → all (λ s. s .content) ss ≡ contents ss
 unfolding all contents
@@ -219,7 +221,7 @@ module _ (t b : List ℕ) where
   pub row-first : (id : SectorId) (i at place k j a q : ℕ) → place + sumAt t at k ≤ length b → sectorSpot t id i at place k ≡ At j a q
       → First (isSector id) rowOnly (λ s. s .content) (sectorsAt t b at place k) at place (sectorOf (rowAt t a) (drop q b)) a q
   unfolding sectorSpot sectorsAt sumAt rowAt
-  row-first id i at place zero j a q h e = let z : _≡_ {A = ℕ} 0 1 = cc in absurd (omega arith)
+  row-first id i at place zero j a q h e = never (cc)
   row-first id i at place (suc k) j a q h e =
       told (rowHere t id at) refl e (row-first id (i + 1) (at + 8) (place + rowAt t at .stored) k j a q (omega arith))
     where
@@ -238,7 +240,7 @@ module _ (t b : List ℕ) where
   pub track-first : (side cylinder i at place k j a q : ℕ) → place + bytesAt t at k ≤ length b → trackSpot t side cylinder i at place k ≡ At j a q
       → First (isTrack side cylinder) trackFor trackPart (tracksAt t b at place k) at place (trackAt t b a q) a q
   unfolding trackSpot tracksAt bytesAt
-  track-first side cylinder i at place zero j a q h e = let z : _≡_ {A = ℕ} 0 1 = cc in absurd (omega arith)
+  track-first side cylinder i at place zero j a q h e = never (cc)
   track-first side cylinder i at place (suc k) j a q h e =
       told (trackHere t side cylinder at) refl e (track-first side cylinder (i + 1) (nextAt t at) (place + trackSum t at) k j a q (omega arith))
     where

@@ -11,7 +11,8 @@ use Rattle.fields.specs.Bytes.{byteAt, numberAt}
 use Rattle.fields.specs.Refusals.{good}
 use Rattle.fields.specs.Model.{Sector, Disk, total, sectorCount, byteCount}
 use Rattle.tracks.specs.Block.{rowAt, sectorOf}
-use Rattle.store.specs.Store.{tableLength, roomOf, rowFor, rowsFor, tracksFor, tableOf, contents, dataOf, sectorsAt, sumAt, countAt, nextAt, trackSum, tracksAt, countsAt, bytesAt, diskOf}
+use Rattle.store.specs.Store.{tableLength, roomOf, tracksFor, tableOf, contents, dataOf, sectorsAt, sumAt, countAt, nextAt, trackSum, tracksAt, countsAt, bytesAt, diskOf}
+use Rattle.tracks.specs.Rows.{rowFor, sectorRow, rowsFor}
 use Rattle.store.specs.Spots.{endAt}
 use Rattle.store.proofs.Sums.{end-is}
 use Rattle.store.proofs.Checks.{kept, disk-told}
@@ -105,7 +106,7 @@ stored-bytes x y n h e = (omega arith, omega arith)
 module _ (t b : List ℕ) (small : (k : ℕ) → byteAt t k < 256) where
   -- what stands from a place on is what is read there, before the rest
   row-laid : (at place : ℕ) → at + 8 ≤ length t → place + rowAt t at .stored ≤ length b
-      → drop at t ≡ rowFor (sectorOf (rowAt t at) (drop place b)) (drop (at + 8) t)
+      → drop at t ≡ rowFor (sectorRow (sectorOf (rowAt t at) (drop place b))) (drop (at + 8) t)
   unfolding rowAt numberAt
   row-laid at place h l =
       let n : length (take (rowAt t at .stored) (drop place b)) ≡ rowAt t at .stored = part-whole t b place (rowAt t at .stored) l in
@@ -125,7 +126,7 @@ module _ (t b : List ℕ) (small : (k : ℕ) → byteAt t k < 256) where
       let n : ℕ = rowAt t at .stored in
       let z : at + 8 + 8 * k ≡ at + 8 * suc k = omega arith in
       row-laid at place (omega arith) (omega arith)
-      ∙ ap (rowFor (sectorOf (rowAt t at) (drop place b)))
+      ∙ ap (rowFor (sectorRow (sectorOf (rowAt t at) (drop place b))))
       (rows-laid (at + 8) (place + n) k (omega arith) (omega arith)
       ∙ ap (λ (i : ℕ). rowsFor (sectorsAt t b (at + 8) (place + n) k) (drop i t)) z)
 

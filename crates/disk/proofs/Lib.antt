@@ -3,3 +3,6 @@ pub mod Holds
 pub mod Cuts
 pub mod Saves
 pub mod Accepts
+pub mod Extents
+pub mod Gathers
+pub mod Servings

@@ -16,19 +16,22 @@ use Rattle.tracks.specs.Block.{rowAt, sectorOf}
 use Rattle.fields.specs.declared.id.SectorId.{SectorId}
 use Rattle.fields.specs.declared.refusal.Refusal.the-variants.{BadStore, NoRoom}
 use Rattle.store.specs.Search.{isTrack, isSector}
-use Rattle.store.specs.Store.{roomOf, rowsFor, tracksFor, tableOf, contents, dataOf, countAt, trackAt, tracksAt, countsAt, bytesAt, wellLaid}
+use Rattle.store.specs.Store.{roomOf, tracksFor, tableOf, contents, dataOf, countAt, trackAt, tracksAt, bytesAt, wellLaid}
+use Rattle.tracks.specs.Rows.{rowsFor}
 use Rattle.disk.specs.Change.{change, withContent, savedIn, saved}
 use Rattle.store.specs.Calls.{outcome, laidAs}
-use Rattle.disk.specs.Calls.{saveAt, saveIn, saveOf}
-use Rattle.store.specs.Spots.{endAt, surveyOf, trackSpot, spotIn, storeSpot}
+use Rattle.disk.specs.Calls.{saveFound, saveIn, saveOf}
+use Rattle.store.specs.Spots.{trackSpot, spotIn, storeSpot, placeAt, placeOf}
 use Rattle.loading.specs.Laying.{trackFor}
 use Rattle.disk.specs.Saving.{lengthBytes, judged, planAt, planOf}
 use Rattle.store.specs.declared.find.Spot.{Spot}
 use Rattle.store.specs.declared.find.Spot.the-variants.{Nothing, At}
-use Rattle.store.specs.declared.check.Totals.the-variants.{Bad, Good}
+use Rattle.store.specs.declared.find.Place.{Place}
+use Rattle.store.specs.declared.find.Place.the-variants as place
 use Rattle.disk.specs.declared.saving.Plan.{Plan}
 use Rattle.disk.specs.declared.saving.Plan.the-variants as plan
 use Rattle.disk.specs.declared.answer.Saved.the-variants as saving
+use Rattle.fields.proofs.Tests.{never}
 use Rattle.store.proofs.Checks.{kept, walkable, disk-bad, disk-good}
 use Rattle.store.proofs.Founds.{rowAtSpot, sector-found, track-in, spot-in}
 use Rattle.store.proofs.Rounds.{data-length}
@@ -87,15 +90,15 @@ module _ (side cylinder : ℕ) (id : SectorId) (new : List ℕ) (d : Disk) (x : 
 abbrev pub held : List ℕ → List ℕ → Disk
 held t b = tracksAt t b 1 0 (byteAt t 0)
 
-abbrev pub endOf : List ℕ → ℕ
-endOf t = bytesAt t 1 (byteAt t 0)
+abbrev pub used : List ℕ → ℕ
+used t = bytesAt t 1 (byteAt t 0)
 
 abbrev pub oldAt : List ℕ → List ℕ → ℕ → ℕ → List ℕ
 oldAt t b a q = take (rowAt t a .stored) (drop q b)
 
 module _ (t b : List ℕ) (side cylinder : ℕ) (id : SectorId) (new : List ℕ) (e : wellLaid t (roomOf b) ≡ true) where
   -- the bytes of all sectors end inside
-  end-in : (0 + endOf t ≤ length b) × (endOf t ≤ roomOf b)
+  end-in : (0 + used t ≤ length b) × (used t ≤ roomOf b)
   unfolding roomOf
   end-in = let l = kept t (roomOf b) e in (omega (arith, l .bytes), l .bytes)
 
@@ -106,7 +109,7 @@ module _ (t b : List ℕ) (side cylinder : ℕ) (id : SectorId) (new : List ℕ)
       where
         told : (s : Spot) → trackSpot t side cylinder 0 1 0 (byteAt t 0) ≡ s → spotIn t id s ≡ At i a q
             → Pieces side cylinder id new (held t b) (oldAt t b a q) a q
-        told Nothing g p = let z : _≡_ {A = ℕ} 0 1 = cc in absurd (omega arith)
+        told Nothing g p = never (cc)
         told (At j x y) g p =
             let h = track-in t side cylinder 0 1 0 (byteAt t 0) j x y g in
             let k = track-first t b side cylinder 0 1 0 (byteAt t 0) j x y (end-in .0) g in
@@ -117,77 +120,57 @@ module _ (t b : List ℕ) (side cylinder : ℕ) (id : SectorId) (new : List ℕ)
             }
 
     -- the row and the bytes lie inside
-    old-in : (a + 8 ≤ length t) × (q + rowAt t a .stored ≤ endOf t)
+    old-in : (a + 8 ≤ length t) × (q + rowAt t a .stored ≤ used t)
     old-in = let w = walkable t b e in let h = spot-in t side cylinder id i a q w f in (omega (arith, h .0, w .long), h .1)
 
     old-long : length (oldAt t b a q) ≡ rowAt t a .stored
     old-long = part-whole t b q (rowAt t a .stored) (omega (arith, old-in .1, end-in .0))
 
-    data-long : length (dataOf (held t b)) ≡ endOf t
+    data-long : length (dataOf (held t b)) ≡ used t
     data-long = data-length (held t b) ∙ bytes-are t b 1 0 (byteAt t 0) (end-in .0)
 
     -- the sum that would result
-    pub save-count : byteCount (saved side cylinder id new (held t b)) ≡ endOf t - rowAt t a .stored + length new
+    pub save-count : byteCount (saved side cylinder id new (held t b)) ≡ used t - rowAt t a .stored + length new
     save-count = sym (data-length (saved side cylinder id new (held t b))) ∙ omega (arith, replaced-length (save-pieces .bytes), old-long, data-long, old-in .1)
 
     -- the spliced data and the table with its new length bytes are the saved disk, laid
     pub save-laid : ((k : ℕ) → byteAt t k < 256)
         → (over t (a + 6) (lengthBytes (length new)) ≡ over t 0 (tableOf (saved side cylinder id new (held t b))))
-        × (over b q (new ++ slice (q + rowAt t a .stored) (endOf t) b) ≡ over b 0 (dataOf (saved side cylinder id new (held t b))))
+        × (over b q (new ++ slice (q + rowAt t a .stored) (used t) b) ≡ over b 0 (dataOf (saved side cylinder id new (held t b))))
     save-laid small =
         let h = is-laid t b (held t b) small (disk-good t b e) in
         let to : q + rowAt t a .stored ≡ q + length (oldAt t b a q) = ap (λ (n : ℕ). q + n) (sym old-long) in
-        (over-laid t (save-pieces .row) (h .0) refl, splice-laid b (save-pieces .bytes) (h .1) _ (endOf t) to (sym data-long))
+        (over-laid t (save-pieces .row) (h .0) refl, splice-laid b (save-pieces .bytes) (h .1) _ (used t) to (sym data-long))
 
 -- ---- how a plan is made
 
--- the bytes that a good check counted
-pub survey-total : (t : List ℕ) (room x y z : ℕ) → Good x y z ≡ surveyOf t room → y ≡ endOf t
-unfolding surveyOf
-survey-total t room x y z e = told (wellLaid t room) e
-  where
-    told : (v : Bool) → Good x y z ≡ cond v (Good (countsAt t 1 (byteAt t 0)) (endOf t) (endAt t 1 (byteAt t 0))) Bad → y ≡ endOf t
-    told true q = cc
-    told false q = let n : _≡_ {A = ℕ} 0 1 = cc in absurd (omega arith)
-
 -- the answers of `judge`
-module _ (t : List ℕ) (row from end count room : ℕ) where
-  pub judged-long : 65535 < count → plan.Refused NoRoom ≡ judged t row from end count room
+module _ (row from to end count room : ℕ) where
+  pub judged-long : 65535 < count → plan.Refused NoRoom ≡ judged row from to end count room
   unfolding judged
   judged-long h = simp (lt-leb _ _ h)
 
-  module _ (n : ℕ) (e : n ≡ rowAt t row .stored) (h : count ≤ 65535) where
-    pub judged-full : room < end - n + count → plan.Refused NoRoom ≡ judged t row from end count room
+  module _ (h : count ≤ 65535) where
+    pub judged-full : room < end - (to - from) + count → plan.Refused NoRoom ≡ judged row from to end count room
     unfolding judged
-    judged-full l = rw (← e) (simp (le-leb _ _ h, lt-leb _ _ l))
+    judged-full l = simp (le-leb _ _ h, lt-leb _ _ l)
 
-    pub judged-good : end - n + count ≤ room → plan.Put row from (from + n) end ≡ judged t row from end count room
+    pub judged-good : end - (to - from) + count ≤ room → plan.Put row from to end ≡ judged row from to end count room
     unfolding judged
-    judged-good l = rw (← e) (simp (le-leb _ _ h, le-leb _ _ l))
+    judged-good l = simp (le-leb _ _ h, le-leb _ _ l)
 
--- and those of `prepare`
-module _ (t b : List ℕ) (side cylinder : ℕ) (id : SectorId) (count : ℕ) where
-  pub planned-bad : wellLaid t (roomOf b) ≡ false → plan.Refused BadStore ≡ planOf t b side cylinder id count
-  unfolding planOf
-  planned-bad e = rw e
+-- and those of `prepare`, by where the sector stands
+pub planned : (t b : List ℕ) (side cylinder : ℕ) (id : SectorId) (count : ℕ) (r p : Place) → r ≡ placeOf t b side cylinder id → r ≡ p
+    → planAt count (roomOf b) p ≡ planOf t b side cylinder id count
+unfolding planOf
+planned t b side cylinder id count r p e f = ap (planAt count (roomOf b)) (sym f ∙ e)
 
-  module _ (e : wellLaid t (roomOf b) ≡ true) where
-    planned : (s : Spot) → s ≡ storeSpot t side cylinder id → planAt t b count s ≡ planOf t b side cylinder id count
-    unfolding planOf
-    planned s f = rw e (ap (planAt t b count) f)
-
-    pub planned-none : Nothing ≡ storeSpot t side cylinder id → plan.Missing ≡ planOf t b side cylinder id count
-    planned-none f = planned Nothing f
-
-    module _ (i a q : ℕ) (f : At i a q ≡ storeSpot t side cylinder id) (total : ℕ) (g : total ≡ endOf t) where
-      pub judge-asks : (a < 65536) × ((q + rowAt t a .stored ≤ total) × (total ≤ 1048576))
-      judge-asks =
-          let w = walkable t b e in
-          let h = spot-in t side cylinder id i a q w f in
-          (omega (arith, h .0), (omega (arith, h .1), omega (arith, w .total)))
-
-      pub planned-at : (room : ℕ) (r : Plan) → room ≡ roomOf b → r ≡ judged t a q total count room → r ≡ planOf t b side cylinder id count
-      planned-at room r er ej = ej ∙ ap₂ (λ (m n : ℕ). judged t a q m count n) g er ∙ planned (At i a q) f
+-- and where it was judged by the room
+pub planned-at : (t b : List ℕ) (side cylinder : ℕ) (id : SectorId) (count : ℕ) (r : Place) → r ≡ placeOf t b side cylinder id
+    → (index row from to end : ℕ) → r ≡ place.Part index row from to end
+    → (room : ℕ) (p : Plan) → room ≡ roomOf b → p ≡ judged row from to end count room → p ≡ planOf t b side cylinder id count
+planned-at t b side cylinder id count r e index row from to end f room p g h =
+    h ∙ ap (judged row from to end count) g ∙ planned t b side cylinder id count r (place.Part index row from to end) e f
 
 -- ---- what a plan says
 
@@ -210,31 +193,31 @@ module _ (t b : List ℕ) (side cylinder : ℕ) (id : SectorId) (new : List ℕ)
   module _ (e : wellLaid t (roomOf b) ≡ true) where
     -- a save by where the search ended
     save-found : (s : Spot) → s ≡ storeSpot t side cylinder id
-        → saveOf t b side cylinder id new ≡ saveAt t b (length new) (saved side cylinder id new (held t b)) (rowAtSpot t b s)
+        → saveOf t b side cylinder id new ≡ saveFound t b (length new) (saved side cylinder id new (held t b)) (rowAtSpot t b s)
     unfolding saveOf
     save-found s f =
         ap (saveIn t b side cylinder id new) (disk-good t b e)
-        ∙ ap (saveAt t b (length new) (saved side cylinder id new (held t b))) (sector-found t b side cylinder id ∙ ap (rowAtSpot t b) (sym f))
+        ∙ ap (saveFound t b (length new) (saved side cylinder id new (held t b))) (sector-found t b side cylinder id ∙ ap (rowAtSpot t b) (sym f))
 
     module _ (i a q : ℕ) (f : At i a q ≡ storeSpot t side cylinder id) where
       -- and by the two tests
-      save-tested : (x y : Bool) → leb (length new) 65535 ≡ x → leb (endOf t - rowAt t a .stored + length new) (roomOf b) ≡ y → saveOf t b side cylinder id new
+      save-tested : (x y : Bool) → leb (length new) 65535 ≡ x → leb (used t - rowAt t a .stored + length new) (roomOf b) ≡ y → saveOf t b side cylinder id new
           ≡ laidAs saving.Refused saving.Good t b (need x NoRoom (need y NoRoom (good (saved side cylinder id new (held t b)))))
       save-tested x y p r =
           save-found (At i a q) f
           ∙ ap₂ (λ (v w : Bool). laidAs saving.Refused saving.Good t b (need v NoRoom (need w NoRoom (good (saved side cylinder id new (held t b))))))
           p (ap (λ (n : ℕ). leb n (roomOf b)) (save-count t b side cylinder id new e i a q f) ∙ r)
 
-      save-room : length new ≤ 65535 → endOf t - rowAt t a .stored + length new ≤ roomOf b
-          → Room t b (length new) a q (q + rowAt t a .stored) (endOf t)
+      save-room : length new ≤ 65535 → used t - rowAt t a .stored + length new ≤ roomOf b
+          → Room t b (length new) a q (q + rowAt t a .stored) (used t)
       unfolding roomOf
       save-room h l =
           let w = end-in t b side cylinder id new e in
           let z = old-in t b side cylinder id new e i a q f in
           record { row-in = z .0; small = omega arith; order = z .1; inside = omega (arith, w .0); room = omega (arith, w .0, z .1) }
 
-      save-put : (x y : Bool) → leb (length new) 65535 ≡ x → leb (endOf t - rowAt t a .stored + length new) (roomOf b) ≡ y
-          → Says (cond x (cond y (plan.Put a q (q + rowAt t a .stored) (endOf t)) (plan.Refused NoRoom)) (plan.Refused NoRoom))
+      save-put : (x y : Bool) → leb (length new) 65535 ≡ x → leb (used t - rowAt t a .stored + length new) (roomOf b) ≡ y
+          → Says (cond x (cond y (plan.Put a q (q + rowAt t a .stored) (used t)) (plan.Refused NoRoom)) (plan.Refused NoRoom))
       save-put false y p r = sym (save-tested false y p r)
       save-put true false p r = sym (save-tested true false p r)
       save-put true true p r = (
@@ -244,16 +227,19 @@ module _ (t b : List ℕ) (side cylinder : ℕ) (id : SectorId) (new : List ℕ)
             (λ k. outcome saving.Good ((et ∙ l .0) k) ((eb ∙ l .1) k)) ∙ sym (save-tested true true p r),
       )
 
-    spot-says : (s : Spot) → s ≡ storeSpot t side cylinder id → Says (planAt t b (length new) s)
+    spot-says : (s : Spot) → s ≡ storeSpot t side cylinder id → Says (planAt (length new) (roomOf b) (placeAt t s))
     unfolding judged
     spot-says Nothing f = sym (save-found Nothing f)
-    spot-says (At i a q) f = save-put i a q f (leb (length new) 65535) (leb (endOf t - rowAt t a .stored + length new) (roomOf b)) refl refl
+    spot-says (At i a q) f =
+        let z : q + rowAt t a .stored - q ≡ rowAt t a .stored = omega arith in
+        rw z (save-put i a q f (leb (length new) 65535) (leb (used t - rowAt t a .stored + length new) (roomOf b)) refl refl)
 
   pub plan-says : Says (planOf t b side cylinder id (length new))
-  unfolding planOf
+  unfolding planOf placeOf
   plan-says = told (wellLaid t (roomOf b)) refl
     where
-      told : (v : Bool) → wellLaid t (roomOf b) ≡ v → Says (cond v (planAt t b (length new) (storeSpot t side cylinder id)) (plan.Refused BadStore))
+      told : (v : Bool) → wellLaid t (roomOf b) ≡ v
+          → Says (planAt (length new) (roomOf b) (cond v (placeAt t (storeSpot t side cylinder id)) (place.Refused BadStore)))
       told true e = spot-says e (storeSpot t side cylinder id) refl
       told false e = unfold saveOf in ap (saveIn t b side cylinder id new) (sym (disk-bad t b e))
 

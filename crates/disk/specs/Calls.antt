@@ -3,9 +3,10 @@ use Prim.Native.Nat.{ℕ}
 use mathlib.Core.List.{List, [], _∷_}
 use mathlib.Core.Bool.{cond}
 use lib.ListN.{length}
-use lib.Dec.{leb}
+use lib.Dec.{eqb, leb}
 use Rattle.buffer.specs.Over.{over}
 use Rattle.fields.specs.Refusals.{Result, refused, good, need, after}
+use Rattle.fields.specs.Bytes.{withBit}
 use Rattle.fields.specs.Model.{sizeOf, Sector, Track, Disk, total, byteCount}
 use Rattle.fields.specs.declared.id.SectorId.{SectorId}
 use Rattle.fields.specs.declared.refusal.Refusal.the-variants.{NoRoom, NoTransferRoom}
@@ -32,13 +33,13 @@ putOf t b long d =
     laidAs saving.Refused saving.Good t b (need (leb long 65535) NoRoom (need (leb (byteCount d) (roomOf b)) NoRoom (good d)))
 
 -- a save where the search ended: missing, or put
-abbrev pub saveAt : List ℕ → List ℕ → ℕ → Disk → Found Sector → Outcome Saved
-saveAt t b long d nothing = outcome saving.Missing t b
-saveAt t b long d (found i s) = putOf t b long d
+abbrev pub saveFound : List ℕ → List ℕ → ℕ → Disk → Found Sector → Outcome Saved
+saveFound t b long d nothing = outcome saving.Missing t b
+saveFound t b long d (found i s) = putOf t b long d
 
 abbrev pub saveIn : List ℕ → List ℕ → ℕ → ℕ → SectorId → List ℕ → Result Disk → Outcome Saved
 saveIn t b side cylinder id new (refused why) = outcome (saving.Refused why) t b
-saveIn t b side cylinder id new (good d) = saveAt t b (length new) (saved side cylinder id new d) (sectorAt d side cylinder id)
+saveIn t b side cylinder id new (good d) = saveFound t b (length new) (saved side cylinder id new d) (sectorAt d side cylinder id)
 
 -- save: 2; missing where no sector matches; 8 on the sum that would result; or the first match takes the new bytes
 unfoldable pub saveOf : List ℕ → List ℕ → ℕ → ℕ → SectorId → List ℕ → Outcome Saved
@@ -60,11 +61,16 @@ readingOf s ss =
       st2 = s .st2;
     })
 
+-- st1 with 0x80 if the total length equals the sizes by n, else with 0x10
+unfoldable pub endOf : ℕ → ℕ → ℕ → ℕ
+endOf long sizes st1 = withBit (cond (eqb long sizes) 0x80 0x10) st1
+
 -- missing; 9 where the bytes exceed the transfer room; or all of them laid from the start, bytes past the total as they came
 abbrev pub filledOf : List ℕ → List Sector → Filled
 filledOf x [] = filled reading.Missing x
 filledOf x (s ∷ ss) =
-    cond (leb (length (contents (s ∷ ss))) (transferRoom x)) (filled (readingOf s ss) (over x 0 (contents (s ∷ ss)))) (filled (reading.Refused NoTransferRoom) x)
+    cond (leb (length (contents (s ∷ ss))) (transferRoom x)) (filled (readingOf s ss) (over x 0 (contents (s ∷ ss))))
+    (filled (reading.Refused NoTransferRoom) x)
 
 abbrev pub filledFrom : List ℕ → ℕ → ℕ → SectorId → ℕ → Result Disk → Filled
 filledFrom x side cylinder id eot (refused why) = filled (reading.Refused why) x

@@ -2,3 +2,4 @@
 pub mod Change
 pub mod Calls
 pub mod Saving
+pub mod Serving

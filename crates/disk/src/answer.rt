@@ -2,6 +2,8 @@
 use fields::Refusal;
 use fields::St1;
 use fields::St2;
+ghost use mathlib.Core.Path.{_≡_};
+ghost use Rattle.disk.specs.Calls.{endOf};
 
 pub enum Saved {
     Good,
@@ -15,6 +17,26 @@ pub struct Served {
     pub sizes: usize,
     pub st1: St1,
     pub st2: St2,
+}
+
+impl Served {
+    // What Read Data replies as st1: the first sector's, with the end of the cylinder where all is as long as n says, else with an overrun.
+    pub fn end_st1(self) -> u8
+        ensures { λ r. ⌜ r ≡ endOf (self .total) (self .sizes) (self .st1 .bits) ⌝ }
+    {
+        let st1 = self.st1;
+        let bits = st1.bits;
+        if self.total == self.sizes {
+            if bits / 128 % 2 == 1 {
+                return bits;
+            }
+            return bits + St1::END_OF_CYLINDER;
+        }
+        if bits / 16 % 2 == 1 {
+            return bits;
+        }
+        bits + St1::OVERRUN
+    }
 }
 
 pub enum Reading {

@@ -2,18 +2,16 @@
 use crate::answer::Saved;
 use fields::Refusal;
 use fields::SectorId;
-use store::Spot;
-use store::Totals;
-use store::find_sector;
+use store::Place;
+use store::locate;
 use store::room_of;
-use store::survey;
 ghost use mathlib.Core.Path.{_≡_};
 ghost use Prim.Native.Nat.{_+_, _-_, _<_, _≤_};
 ghost use mathlib.Core.List.{_++_};
 ghost use lib.ListN.{length};
 ghost use lib.Seq.{slice};
 ghost use Rattle.buffer.specs.Over.{over};
-ghost use Rattle.tracks.specs.Block.{rowAt};
+ghost use Rattle.fields.specs.Capacities.{mostData};
 ghost use Rattle.store.specs.Calls.{outcome};
 ghost use Rattle.disk.specs.Calls.{saveOf};
 ghost use Rattle.disk.specs.Saving.{lengthBytes, judged, planOf};
@@ -35,7 +33,7 @@ pub fn splice(buf: &mut [u8], from: usize, to: usize, end: usize, new: &[u8])
     requires { ⌜ (to ≤ end) × ((end ≤ length (now buf)) × (from + length (now new) + (end - to) ≤ length (now buf))) ⌝ }
     ensures { λ _. ⌜ now (buf .exit) ≡ over (now (buf .entry)) from (now (new .entry) ++ slice to end (now (buf .entry))) ⌝ }
 {
-    moves::shift(buf, to, from + new.len(), end);
+    buffer::shift(buf, to, from + new.len(), end);
     buffer::copy_in(buf, from, new);
 }
 
@@ -50,20 +48,17 @@ fn put_length(table: &mut [u8], at: usize, count: usize)
     buffer::copy_in(table, at + 6, &bytes);
 }
 
-// Whether the sector whose row and bytes were found can take so many bytes, where those of all sectors end at `end`.
-fn judge(table: &[u8], row: usize, from: usize, end: usize, count: usize, room: usize) -> Plan
-    requires { ⌜ (row < 65536) × ((from + rowAt (now table) row .stored ≤ end) × (end ≤ 1048576)) ⌝ }
-    ensures { λ r. ⌜ r ≡ judged (now (table .entry)) row from end count room ⌝ }
+// Whether so many bytes can take the place of those that were found, where the bytes of all sectors end at `end`.
+fn judge(row: usize, from: usize, to: usize, end: usize, count: usize, room: usize) -> Plan
+    requires { ⌜ (from ≤ to) × ((to ≤ end) × (end ≤ mostData)) ⌝ }
+    ensures { λ r. ⌜ r ≡ judged row from to end count room ⌝ }
 {
-    let entry = tracks::row_at(table, row);
-    let old = entry.stored as usize;
     if 65535 < count {
         return Plan::Refused(Refusal::NoRoom);
     }
-    if room < end - old + count {
+    if room < end - (to - from) + count {
         return Plan::Refused(Refusal::NoRoom);
     }
-    let to = from + old;
     Plan::Put { row, from, to, end }
 }
 
@@ -71,21 +66,16 @@ fn judge(table: &[u8], row: usize, from: usize, end: usize, count: usize, room: 
 fn prepare(table: &[u8], bytes: &[u8], side: u8, cylinder: u8, id: SectorId, count: usize) -> Plan
     ensures { λ r. ⌜ r ≡ planOf (now (table .entry)) (now (bytes .entry)) side cylinder id count ⌝ }
 {
-    let room = room_of(bytes);
-    match survey(table, room) {
-        Totals::Bad => Plan::Refused(Refusal::BadStore),
-        Totals::Good {
-            sectors: _,
-            bytes: total,
-            end: _,
-        } => match find_sector(table, side, cylinder, id) {
-            Spot::Nothing => Plan::Missing,
-            Spot::At {
-                index: _,
-                at,
-                place,
-            } => judge(table, at, place, total, count, room),
-        },
+    match locate(table, bytes, side, cylinder, id) {
+        Place::Refused(why) => Plan::Refused(why),
+        Place::Nothing => Plan::Missing,
+        Place::Part {
+            index: _,
+            row,
+            from,
+            to,
+            end,
+        } => judge(row, from, to, end, count, room_of(bytes)),
     }
 }
 
@@ -98,7 +88,8 @@ pub fn save(
     id: SectorId,
     new: &[u8],
 ) -> Saved
-    ensures { λ r. ⌜ outcome r (now (table .exit)) (now (bytes .exit)) ≡ saveOf (now (table .entry)) (now (bytes .entry)) side cylinder id (now (new .entry)) ⌝ }
+    ensures { λ r. ⌜ outcome r (now (table .exit)) (now (bytes .exit))
+        ≡ saveOf (now (table .entry)) (now (bytes .entry)) side cylinder id (now (new .entry)) ⌝ }
 {
     match prepare(table, bytes, side, cylinder, id, new.len()) {
         Plan::Refused(why) => Saved::Refused(why),

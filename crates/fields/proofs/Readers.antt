@@ -7,7 +7,7 @@ use mathlib.Core.Bool.{Bool, true, false, cond}
 use lib.ListN.{length, take, drop, List·getD-eq-default}
 use lib.Dec.{leb, ltb}
 use borrow.Author.Tests.{lt-ltb, le-ltb, lt-leb, le-leb, ltb-true, ltb-false}
-use Rattle.fields.specs.Bytes.{byteAt, numberAt, textAt, readOf, stringOf}
+use Rattle.fields.specs.Bytes.{byteAt, numberAt, textAt, readNumber, readString}
 use Rattle.buffer.specs.Same.{sameBytes}
 use Rattle.fields.specs.declared.refusal.Refusal.the-variants.{ShortImage}
 use Rattle.fields.specs.declared.read.Read.the-variants as read
@@ -47,23 +47,23 @@ module _ (width : ℕ) (b : List ℕ) (at : ℕ) (t : Bool) (e : t ≡ ltb (leng
   pub whole : t ≡ false → at + width ≤ length b
   whole h = ltb-false (length b) (at + width) (sym e ∙ h)
 
-  pub read-short : t ≡ true → read.Refused ShortImage ≡ readOf width b at
-  unfolding readOf
+  pub read-short : t ≡ true → read.Refused ShortImage ≡ readNumber width b at
+  unfolding readNumber
   read-short h = let l : length b < at + width = ltb-true (length b) (at + width) (sym e ∙ h) in simp (lt-leb _ _ l)
 
-  pub read-whole : (v : ℕ) → t ≡ false → v ≡ numberAt width b at → read.Number v ≡ readOf width b at
-  unfolding readOf
+  pub read-whole : (v : ℕ) → t ≡ false → v ≡ numberAt width b at → read.Number v ≡ readNumber width b at
+  unfolding readNumber
   read-whole v h q = simp (le-leb _ _ (whole h)) (ap read.Number q)
 
 -- a compare's three answers
 module _ (t b : List ℕ) (at : ℕ) (s : Bool) (e : s ≡ ltb (length b) (at + length t)) where
-  pub string-short : s ≡ true → text.Refused ShortImage ≡ stringOf t b at
-  unfolding stringOf
+  pub string-short : s ≡ true → text.Refused ShortImage ≡ readString t b at
+  unfolding readString
   string-short h = let l : length b < at + length t = ltb-true (length b) (at + length t) (sym e ∙ h) in simp (lt-leb _ _ l)
 
   pub string-whole : (v : Bool) (p : List ℕ) (q : Bool) → s ≡ false → p ≡ take (length t) (drop at b) → q ≡ sameBytes p t → q ≡ v
-      → cond v text.Same text.Other ≡ stringOf t b at
-  unfolding stringOf textAt
+      → cond v text.Same text.Other ≡ readString t b at
+  unfolding readString textAt
   string-whole v p q h ep eq ev =
       let y : sameBytes (take (length t) (drop at b)) t ≡ v = cc in
       simp (le-leb _ _ (whole (length t) b at s e h), y)
@@ -74,8 +74,8 @@ Told t b at (text.Refused why) = (leb (at + length t) (length b) ≡ false) × (
 Told t b at text.Same = (leb (at + length t) (length b) ≡ true) × (textAt t b at ≡ true)
 Told t b at text.Other = (leb (at + length t) (length b) ≡ true) × (textAt t b at ≡ false)
 
-answered : (t b : List ℕ) (at : ℕ) → Told t b at (stringOf t b at)
-unfolding stringOf
+answered : (t b : List ℕ) (at : ℕ) → Told t b at (readString t b at)
+unfolding readString
 answered t b at = whichever (leb (at + length t) (length b)) refl (textAt t b at) refl
   where
     whichever : (l : Bool) → leb (at + length t) (length b) ≡ l → (m : Bool) → textAt t b at ≡ m
@@ -84,5 +84,5 @@ answered t b at = whichever (leb (at + length t) (length b)) refl (textAt t b at
     whichever true p false q = (p, q)
     whichever false p m q = (p, refl)
 
-pub told : (t b : List ℕ) (at : ℕ) (x : Text) → stringOf t b at ≡ x → Told t b at x
+pub told : (t b : List ℕ) (at : ℕ) (x : Text) → readString t b at ≡ x → Told t b at x
 told t b at x e = rw e at (answered t b at)

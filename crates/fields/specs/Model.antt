@@ -1,7 +1,9 @@
 -- A disk as its user sees it. Nothing here speaks of an image or of a place in a store.
-use Prim.Native.Nat.{ℕ, _+_, _*_, _%_, _^_}
+use Prim.Native.Nat.{ℕ, _+_, _*_, _/_, _%_, _^_}
+use mathlib.Core.Bool.{cond}
 use mathlib.Core.List.{List, [], _∷_}
 use lib.ListN.{length}
+use lib.Dec.{eqb}
 use Rattle.fields.specs.declared.id.SectorId.{SectorId}
 use Rattle.fields.specs.declared.id.St1.{St1}
 use Rattle.fields.specs.declared.id.St2.{St2}
@@ -9,6 +11,10 @@ use Rattle.fields.specs.declared.id.St2.{St2}
 -- a sector's size by n: 128 shifted left by n & 3
 unfoldable pub sizeOf : ℕ → ℕ
 sizeOf n = 128 * 2 ^ (n % 4)
+
+-- copies: stored length over size by n where that leaves no remainder, else 0 (01, "Listing program")
+unfoldable pub copies : ℕ → ℕ → ℕ
+copies stored n = cond (eqb (stored % sizeOf n) 0) (stored / sizeOf n) 0
 
 -- a sector: its ID, its two status bytes and its stored bytes, however many
 pub record Sector : Type 0 where

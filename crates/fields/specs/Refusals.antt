@@ -2,7 +2,8 @@
 use Prim.Native.Nat.{ℕ}
 use mathlib.Core.Bool.{Bool, true, false}
 use Rattle.fields.specs.declared.refusal.Refusal.{Refusal}
-use Rattle.fields.specs.declared.refusal.Refusal.the-variants.{BadController, BadStore, ShortImage, NotAnImage, NotATrack, TooManyTracks, TooManySectors, NoRoom, NoTransferRoom, LongInput}
+use Rattle.fields.specs.declared.refusal.Refusal.the-variants.{BadController, BadStore, ShortImage, NotAnImage, NotATrack, TooManyTracks}
+use Rattle.fields.specs.declared.refusal.Refusal.the-variants.{TooManySectors, NoRoom, NoTransferRoom, LongInput}
 
 -- the table "Refusal numbers" of 01
 abbrev pub numberOf : Refusal → ℕ

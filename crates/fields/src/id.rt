@@ -1,6 +1,6 @@
 // A sector's ID and its two status bytes, with the names of their bits.
 ghost use mathlib.Core.Path.{_≡_};
-ghost use Rattle.fields.specs.Model.{sizeOf};
+ghost use Rattle.fields.specs.Model.{sizeOf, copies};
 
 pub struct SectorId {
     pub c: u8,
@@ -9,13 +9,30 @@ pub struct SectorId {
     pub n: u8,
 }
 
+// The size that an n names: 128 shifted left by its two low bits.
+pub fn size_of(n: u8) -> usize
+    ensures { λ r. ⌜ r ≡ sizeOf n ⌝ }
+{
+    128usize << (n % 4)
+}
+
 impl SectorId {
-    // The size that n names, whatever is stored: 128 shifted left by its two low bits.
+    // The size that its n names, whatever is stored.
     pub fn len(self) -> usize
         ensures { λ r. ⌜ r ≡ sizeOf (self .n) ⌝ }
     {
-        let n = self.n % 4;
-        128usize << n
+        size_of(self.n)
+    }
+
+    // How often that size goes into a stored length, 0 where that leaves a remainder.
+    pub fn copies(self, stored: usize) -> usize
+        ensures { λ r. ⌜ r ≡ copies stored (self .n) ⌝ }
+    {
+        let size = self.len();
+        if stored % size == 0 {
+            return stored / size;
+        }
+        0
     }
 }
 

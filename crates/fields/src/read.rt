@@ -4,7 +4,7 @@ ghost use mathlib.Core.Path.{_≡_};
 ghost use Prim.Native.Nat.{_+_, _<_, _^_};
 ghost use lib.ListN.{length};
 ghost use lib.Dec.{ltb};
-ghost use Rattle.fields.specs.Bytes.{byteAt, numberAt, readOf, stringOf};
+ghost use Rattle.fields.specs.Bytes.{byteAt, numberAt, readNumber, readString};
 
 pub enum Read {
     Refused(Refusal),
@@ -50,7 +50,7 @@ fn short(s: &[u8], at: usize, width: usize) -> bool
 }
 
 pub fn read_u8(s: &[u8], at: usize) -> Read
-    ensures { λ r. ⌜ r ≡ readOf 1 (now (s .entry)) at ⌝ }
+    ensures { λ r. ⌜ r ≡ readNumber 1 (now (s .entry)) at ⌝ }
 {
     if short(s, at, 1) {
         return Read::Refused(Refusal::ShortImage);
@@ -60,7 +60,7 @@ pub fn read_u8(s: &[u8], at: usize) -> Read
 }
 
 pub fn read_u16(s: &[u8], at: usize) -> Read
-    ensures { λ r. ⌜ r ≡ readOf 2 (now (s .entry)) at ⌝ }
+    ensures { λ r. ⌜ r ≡ readNumber 2 (now (s .entry)) at ⌝ }
 {
     if short(s, at, 2) {
         return Read::Refused(Refusal::ShortImage);
@@ -70,7 +70,7 @@ pub fn read_u16(s: &[u8], at: usize) -> Read
 }
 
 pub fn read_u32(s: &[u8], at: usize) -> Read
-    ensures { λ r. ⌜ r ≡ readOf 4 (now (s .entry)) at ⌝ }
+    ensures { λ r. ⌜ r ≡ readNumber 4 (now (s .entry)) at ⌝ }
 {
     if short(s, at, 4) {
         return Read::Refused(Refusal::ShortImage);
@@ -82,7 +82,7 @@ pub fn read_u32(s: &[u8], at: usize) -> Read
 
 // Compares the bytes at a place with a text.
 pub fn read_string(s: &[u8], at: usize, text: &[u8]) -> Text
-    ensures { λ r. ⌜ r ≡ stringOf (now (text .entry)) (now (s .entry)) at ⌝ }
+    ensures { λ r. ⌜ r ≡ readString (now (text .entry)) (now (s .entry)) at ⌝ }
 {
     if short(s, at, text.len()) {
         return Text::Refused(Refusal::ShortImage);

@@ -1,18 +1,22 @@
--- What the calls on a whole controller, its registers and the held bytes, answer and leave: those of the registers (`crates/registers`) and of a byte sent
--- (`crates/commands`), with the held bytes beside them.
+-- What the calls on a whole controller, its registers and the held bytes, answer and leave: those of the registers (`crates/registers`)
+-- and of a byte sent (`crates/sending`), with the held bytes beside them.
 use Prim.Native.Nat.{ℕ}
 use mathlib.Core.Bool.{false}
 use mathlib.Core.List.{List}
 use lib.ListN.{replicate}
-use Rattle.store.specs.declared.answer.Done.{Done}
+use Rattle.fields.specs.Capacities.{mostHeld}
 use Rattle.floppy.specs.declared.Floppy.{Floppy}
 use Rattle.floppy.specs.declared.Shown.{Shown}
 use Rattle.floppy.specs.declared.After.{After}
+use Rattle.floppy.specs.declared.Changed.{Changed}
 use Rattle.registers.specs.declared.regs.Byte.{Byte}
 use Rattle.registers.specs.declared.regs.Seek.the-variants.{Idle}
-use Rattle.registers.specs.declared.regs.Written.{Written}
+use Rattle.registers.specs.declared.regs.Receipt.{Receipt}
+use Rattle.registers.specs.declared.regs.Switched.{Switched}
 use Rattle.registers.specs.declared.regs.Told.{Told}
+use Rattle.registers.specs.Calls.{statusRead, dataRead}
 use Rattle.commands.specs.Lent.{Left, left}
+use Rattle.sending.specs.Calls.{dataWrite}
 
 -- `Floppy::new`: no number but 0, no flag but off
 unfoldable pub newFloppy : Floppy
@@ -31,26 +35,37 @@ newFloppy = record {
     write = record { on = false; c1 = 0; id = record { c = 0; h = 0; r = 0; n = 0 }; taken = 0 };
     drive = record { cylinder = 0; seek = Idle; disk = false };
   };
-  held = replicate 1024 0;
+  held = replicate mostHeld 0;
 }
 
--- an answer and the controller then
+-- an answer and the controller then: of a port read, of a byte sent, of a change of motor or disk
 abbrev pub shown : Byte → Floppy → Shown
 shown b f = record { byte = b; floppy = f }
 
-abbrev pub after : Done → Floppy → After
-after d f = record { done = d; floppy = f }
+abbrev pub sentAs : Receipt → Floppy → After
+sentAs a f = record { receipt = a; floppy = f }
 
 -- a port read, and a change, leave the held bytes
 abbrev pub shownAs : Told → List ℕ → Shown
 shownAs a h = shown (a .answer) (record { regs = a .regs; held = h })
 
-abbrev pub afterAs : Written → List ℕ → After
-afterAs a h = after (a .done) (record { regs = a .regs; held = h })
+abbrev pub changedAs : Switched → List ℕ → Changed
+changedAs a h = record { done = a .done; floppy = record { regs = a .regs; held = h } }
 
 -- what a byte sent leaves: the answer with the controller, the table, the data and the transfer buffer
 pub data Wrote : Type 0 where
   wrote : After → List ℕ → List ℕ → List ℕ → Wrote
 
 abbrev pub wroteAs : Left → Wrote
-wroteAs (left a h t b x) = wrote (afterAs a h) t b x
+wroteAs (left a h t b x) = wrote (sentAs (a .receipt) (record { regs = a .regs; held = h })) t b x
+
+-- ---- The three calls at the ports: `read_status`, `read_cmd`, `write_cmd`
+
+abbrev pub statusCall : Floppy → Shown
+statusCall f = shownAs (statusRead (f .regs)) (f .held)
+
+abbrev pub readCall : Floppy → List ℕ → Shown
+readCall f x = shownAs (dataRead (f .regs) x) (f .held)
+
+abbrev pub writeCall : Floppy → ℕ → List ℕ → List ℕ → List ℕ → Wrote
+writeCall f b t d x = wroteAs (dataWrite (f .regs) b (f .held) t d x)

@@ -1,21 +1,22 @@
 // The floppy controller uPD765A, over a disk that is kept in a lent table and a lent data buffer. What is read lies in a lent transfer buffer.
+use fields::HELD;
 use fields::SectorId;
 use registers::Byte;
 use registers::Drive;
 use registers::Flag;
 use registers::Pending;
+use registers::Receipt;
 use registers::Regs;
 use registers::Seek;
 use store::Done;
 ghost use mathlib.Core.Path.{_≡_};
-ghost use Rattle.floppy.specs.Calls.{newFloppy, shown, shownAs, after, afterAs, wrote, wroteAs};
-ghost use Rattle.sending.specs.Calls.{dataWrite};
-ghost use Rattle.registers.specs.Calls.{statusRead, dataRead, motorSet, diskSet, motorOf, trackOf, diskIn};
+ghost use Rattle.floppy.specs.Calls.{newFloppy, shown, sentAs, changedAs, wrote, statusCall, readCall, writeCall};
+ghost use Rattle.registers.specs.Calls.{motorSet, diskSet, motorOf, currentTrack, diskIn};
 
 // A controller: its registers, and beside them the bytes of an unfinished write.
 pub struct Floppy {
     pub regs: Regs,
-    pub held: [u8; 1024],
+    pub held: [u8; HELD],
 }
 
 // What a port read answers, with the controller then.
@@ -24,8 +25,14 @@ pub struct Shown {
     pub floppy: Floppy,
 }
 
-// What a sent byte or a change answers, with the controller then.
+// What a byte sent answers, with the controller then.
 pub struct After {
+    pub receipt: Receipt,
+    pub floppy: Floppy,
+}
+
+// What a change of motor or disk answers, with the controller then.
+pub struct Changed {
     pub done: Done,
     pub floppy: Floppy,
 }
@@ -67,12 +74,12 @@ impl Floppy {
         };
         Floppy {
             regs,
-            held: [0; 1024],
+            held: [0; HELD],
         }
     }
 
-    pub fn set_motor(self, motor: bool) -> After
-        ensures { λ r. ⌜ r ≡ afterAs (motorSet motor (self .regs)) (self .held) ⌝ }
+    pub fn set_motor(self, motor: bool) -> Changed
+        ensures { λ r. ⌜ r ≡ changedAs (motorSet motor (self .regs)) (self .held) ⌝ }
     {
         let regs = self.regs;
         let a = regs.set_motor(motor);
@@ -80,7 +87,7 @@ impl Floppy {
         let after = a.regs;
         let held = self.held;
         let floppy = Floppy { regs: after, held };
-        After { done, floppy }
+        Changed { done, floppy }
     }
 
     pub fn motor(self) -> Flag
@@ -91,7 +98,7 @@ impl Floppy {
     }
 
     pub fn current_track(self) -> Byte
-        ensures { λ r. ⌜ r ≡ trackOf (self .regs) ⌝ }
+        ensures { λ r. ⌜ r ≡ currentTrack (self .regs) ⌝ }
     {
         let regs = self.regs;
         regs.current_track()
@@ -106,8 +113,8 @@ impl Floppy {
     }
 
     // Another disk is in the drive, the one in the store that is lent from now on, or none. All else is carried over, a write in progress included.
-    pub fn set_disk(self, present: bool) -> After
-        ensures { λ r. ⌜ r ≡ afterAs (diskSet present (self .regs)) (self .held) ⌝ }
+    pub fn set_disk(self, present: bool) -> Changed
+        ensures { λ r. ⌜ r ≡ changedAs (diskSet present (self .regs)) (self .held) ⌝ }
     {
         let regs = self.regs;
         let a = regs.set_disk(present);
@@ -115,25 +122,26 @@ impl Floppy {
         let after = a.regs;
         let held = self.held;
         let floppy = Floppy { regs: after, held };
-        After { done, floppy }
+        Changed { done, floppy }
     }
 
     // A byte sent to the data port. A refused one is not taken and may be sent again.
     pub fn write_step(self, b: u8, table: &mut [u8], bytes: &mut [u8], transfer: &mut [u8]) -> After
-        ensures { λ r. ⌜ wrote r (now (table .exit)) (now (bytes .exit)) (now (transfer .exit)) ≡ wroteAs (dataWrite (self .regs) b (self .held) (now (table .entry)) (now (bytes .entry)) (now (transfer .entry))) ⌝ }
+        ensures { λ r. ⌜ wrote r (now (table .exit)) (now (bytes .exit)) (now (transfer .exit))
+            ≡ writeCall self b (now (table .entry)) (now (bytes .entry)) (now (transfer .entry)) ⌝ }
     {
         let regs = self.regs;
         let mut held = self.held;
         let a = sending::write_cmd(regs, b, &mut held, table, bytes, transfer);
-        let done = a.done;
+        let receipt = a.receipt;
         let after = a.regs;
         let floppy = Floppy { regs: after, held };
-        After { done, floppy }
+        After { receipt, floppy }
     }
 
     // A read of the data port.
     pub fn read_step(self, transfer: &[u8]) -> Shown
-        ensures { λ r. ⌜ r ≡ shownAs (dataRead (self .regs) (now (transfer .entry))) (self .held) ⌝ }
+        ensures { λ r. ⌜ r ≡ readCall self (now (transfer .entry)) ⌝ }
     {
         let regs = self.regs;
         let a = regs.read_cmd(transfer);
@@ -146,7 +154,7 @@ impl Floppy {
 
     // A read of the main status.
     pub fn status_step(self) -> Shown
-        ensures { λ r. ⌜ r ≡ shownAs (statusRead (self .regs)) (self .held) ⌝ }
+        ensures { λ r. ⌜ r ≡ statusCall self ⌝ }
     {
         let regs = self.regs;
         let a = regs.read_status();
@@ -165,17 +173,18 @@ impl Floppy {
         table: &mut [u8],
         bytes: &mut [u8],
         transfer: &mut [u8],
-    ) -> Done
-        ensures { λ r. ⌜ wrote (after r (now (self .exit))) (now (table .exit)) (now (bytes .exit)) (now (transfer .exit)) ≡ wroteAs (dataWrite (now (self .entry) .regs) b (now (self .entry) .held) (now (table .entry)) (now (bytes .entry)) (now (transfer .entry))) ⌝ }
+    ) -> Receipt
+        ensures { λ r. ⌜ wrote (sentAs r (now (self .exit))) (now (table .exit)) (now (bytes .exit)) (now (transfer .exit))
+            ≡ writeCall (now (self .entry)) b (now (table .entry)) (now (bytes .entry)) (now (transfer .entry)) ⌝ }
     {
         let c = *self;
         let a = c.write_step(b, table, bytes, transfer);
         *self = a.floppy;
-        a.done
+        a.receipt
     }
 
     pub fn read_cmd(&mut self, transfer: &[u8]) -> Byte
-        ensures { λ r. ⌜ shown r (now (self .exit)) ≡ shownAs (dataRead (now (self .entry) .regs) (now (transfer .entry))) (now (self .entry) .held) ⌝ }
+        ensures { λ r. ⌜ shown r (now (self .exit)) ≡ readCall (now (self .entry)) (now (transfer .entry)) ⌝ }
     {
         let g = self.regs;
         let a = g.read_cmd(transfer);
@@ -184,7 +193,7 @@ impl Floppy {
     }
 
     pub fn read_status(&mut self) -> Byte
-        ensures { λ r. ⌜ shown r (now (self .exit)) ≡ shownAs (statusRead (now (self .entry) .regs)) (now (self .entry) .held) ⌝ }
+        ensures { λ r. ⌜ shown r (now (self .exit)) ≡ statusCall (now (self .entry)) ⌝ }
     {
         let g = self.regs;
         let a = g.read_status();
@@ -195,15 +204,16 @@ impl Floppy {
     // The same three for code that the borrow checker covers: the controller is lent for the call and comes back.
 
     pub fn write_lent(self, b: u8, table: &mut [u8], bytes: &mut [u8], transfer: &mut [u8]) -> After
-        ensures { λ r. ⌜ wrote r (now (table .exit)) (now (bytes .exit)) (now (transfer .exit)) ≡ wroteAs (dataWrite (self .regs) b (self .held) (now (table .entry)) (now (bytes .entry)) (now (transfer .entry))) ⌝ }
+        ensures { λ r. ⌜ wrote r (now (table .exit)) (now (bytes .exit)) (now (transfer .exit))
+            ≡ writeCall self b (now (table .entry)) (now (bytes .entry)) (now (transfer .entry)) ⌝ }
     {
         let mut f = self;
-        let done = f.write_cmd(b, table, bytes, transfer);
-        After { done, floppy: f }
+        let receipt = f.write_cmd(b, table, bytes, transfer);
+        After { receipt, floppy: f }
     }
 
     pub fn read_lent(self, transfer: &[u8]) -> Shown
-        ensures { λ r. ⌜ r ≡ shownAs (dataRead (self .regs) (now (transfer .entry))) (self .held) ⌝ }
+        ensures { λ r. ⌜ r ≡ readCall self (now (transfer .entry)) ⌝ }
     {
         let mut f = self;
         let byte = f.read_cmd(transfer);
@@ -211,7 +221,7 @@ impl Floppy {
     }
 
     pub fn status_lent(self) -> Shown
-        ensures { λ r. ⌜ r ≡ shownAs (statusRead (self .regs)) (self .held) ⌝ }
+        ensures { λ r. ⌜ r ≡ statusCall self ⌝ }
     {
         let mut f = self;
         let byte = f.read_status();

@@ -1,2 +1,2 @@
 -- What the private calls say. A reader of the promises need not read this page.
-pub mod Setting
+pub mod Sets

@@ -7,36 +7,36 @@ use mathlib.Core.List.{List}
 use lib.ListN.{length}
 use lib.Dec.{leb}
 use borrow.Author.Tests.{eq-eqb}
+use Rattle.fields.specs.Capacities.{mostHeld}
 use Rattle.fields.specs.Refusals.{Result, refused, good}
-use Rattle.store.specs.declared.answer.Done.the-variants as done
 use Rattle.registers.specs.declared.regs.Regs.{Regs}
 use Rattle.registers.specs.declared.regs.Seek.{Seek}
 use Rattle.registers.specs.declared.regs.Seek.the-variants.{Idle, Running, Done}
 use Rattle.registers.specs.Boxes.{Sent}
 use Rattle.registers.specs.View.{impossible, impossibleIn}
-use Rattle.registers.specs.Settle.{withMotor, withDrive, regsOf}
-use Rattle.registers.specs.Calls.{statusOf, afterStatusOf, toldIf, statusRead, sourceOf, byteFrom, regsRead, dataRead, changedIf, motorSet, diskSet, motorOf, trackOf, diskIn}
+use Rattle.registers.specs.Settle.{regsWithMotor, regsWithDrive, regsOf}
+use Rattle.registers.specs.Calls.{statusOf, afterStatusOf, toldIf, statusRead, sourceOf, byteFrom, regsRead, dataRead, switchedIf, motorSet, diskSet, motorOf, currentTrack, diskIn}
 use Rattle.commands.specs.Lent.{leftOf}
 use Rattle.sending.specs.Calls.{sentTo, dataWrite}
 use Rattle.floppy.specs.declared.Floppy.{Floppy}
 use Rattle.floppy.specs.declared.Shown.{Shown}
-use Rattle.floppy.specs.declared.After.{After}
-use Rattle.floppy.specs.Calls.{shownAs, afterAs, Wrote, wrote, wroteAs}
-use Rattle.layout.specs.Layout.{controllerLength, flagByte, seekByte, numbersFor, imageOf, formed, regsIn}
-use Rattle.words.specs.Words.{byteWord, flagWord, doneWord}
-use Rattle.host.specs.Calls.{motorOn, trackOn, diskOn, Answered, answered, toldOn, writtenOn, setMotorOn, setDiskOn, statusOn, readOn, Sending, sending, sentOn, writeOn}
+use Rattle.floppy.specs.declared.Changed.{Changed}
+use Rattle.floppy.specs.Calls.{shownAs, changedAs, Wrote, wrote, wroteAs, statusCall, readCall, writeCall}
+use Rattle.layout.specs.Layout.{controllerLength, flagByte, seekByte, numbersFor, floppyBytes, formed, regsIn}
+use Rattle.words.specs.Words.{byteWord, flagWord, doneWord, receiptWord}
+use Rattle.host.specs.Calls.{motorOn, trackOn, diskOn, Answered, answered, toldOn, switchedOn, setMotorOn, setDiskOn, statusOn, readOn, Sending, sending, postedOn, writeOn}
 use Rattle.layout.proofs.Inverse.{Fitting, read-back}
 
 -- ---- an answer by value, as words and bytes
 
 abbrev pub shownWord : Shown → Answered
-shownWord a = answered (byteWord (a .byte)) (imageOf (a .floppy))
+shownWord a = answered (byteWord (a .byte)) (floppyBytes (a .floppy))
 
-abbrev pub afterWord : After → Answered
-afterWord a = answered (doneWord (a .done)) (imageOf (a .floppy))
+abbrev pub changedWord : Changed → Answered
+changedWord a = answered (doneWord (a .done)) (floppyBytes (a .floppy))
 
 abbrev pub wroteWord : Wrote → Sending
-wroteWord (wrote a t d x) = sending (doneWord (a .done)) (imageOf (a .floppy)) t d x
+wroteWord (wrote a t d x) = sending (receiptWord (a .receipt)) (floppyBytes (a .floppy)) t d x
 
 -- ---- the bytes of a controller are formed
 
@@ -49,68 +49,68 @@ seek-few Idle = refl
 seek-few Running = refl
 seek-few Done = refl
 
-module _ (f : Floppy) (fits : Fitting (f .regs)) (long : length (f .held) ≡ 1024) where
-  image-formed : formed (imageOf f) ≡ true
+module _ (f : Floppy) (fits : Fitting (f .regs)) (long : length (f .held) ≡ mostHeld) where
+  image-formed : formed (floppyBytes f) ≡ true
   unfolding formed numbersFor
   image-formed =
       let n : length (numbersFor (f .regs) (f .held)) ≡ controllerLength = omega (arith, long) in
       rw (eq-eqb _ _ n, flag-few (f .regs .motor), flag-few (f .regs .write .on), seek-few (f .regs .drive .seek), flag-few (f .regs .drive .disk))
 
-  image-in : regsIn (imageOf f) ≡ good (f .regs)
+  image-in : regsIn (floppyBytes f) ≡ good (f .regs)
   unfolding regsIn
   image-in = rw image-formed (ap good (read-back (f .regs) (f .held) fits))
 
   -- ---- calls that ask
 
-  pub motor-same : motorOn (imageOf f) ≡ flagWord (motorOf (f .regs))
+  pub motor-same : motorOn (floppyBytes f) ≡ flagWord (motorOf (f .regs))
   unfolding motorOn
   motor-same = rw image-in
 
-  pub track-same : trackOn (imageOf f) ≡ byteWord (trackOf (f .regs))
+  pub track-same : trackOn (floppyBytes f) ≡ byteWord (currentTrack (f .regs))
   unfolding trackOn
   track-same = rw image-in
 
-  pub disk-same : diskOn (imageOf f) ≡ flagWord (diskIn (f .regs))
+  pub disk-same : diskOn (floppyBytes f) ≡ flagWord (diskIn (f .regs))
   unfolding diskOn
   disk-same = rw image-in
 
   -- ---- port reads, motor and disk
 
-  told-same : (v : Bool) (b : ℕ) (r : Regs) → toldOn (imageOf f) (toldIf v b r (f .regs)) ≡ shownWord (shownAs (toldIf v b r (f .regs)) (f .held))
+  told-same : (v : Bool) (b : ℕ) (r : Regs) → toldOn (floppyBytes f) (toldIf v b r (f .regs)) ≡ shownWord (shownAs (toldIf v b r (f .regs)) (f .held))
   unfolding numbersFor
   told-same true b r = refl
   told-same false b r = refl
 
-  changed-same : (v : Bool) (r : Regs) → writtenOn (imageOf f) (changedIf v r (f .regs)) ≡ afterWord (afterAs (changedIf v r (f .regs)) (f .held))
+  changed-same : (v : Bool) (r : Regs) → switchedOn (floppyBytes f) (switchedIf v r (f .regs)) ≡ changedWord (changedAs (switchedIf v r (f .regs)) (f .held))
   unfolding numbersFor
   changed-same true r = refl
   changed-same false r = refl
 
-  pub status-same : statusOn (imageOf f) ≡ shownWord (shownAs (statusRead (f .regs)) (f .held))
+  pub status-same : statusOn (floppyBytes f) ≡ shownWord (statusCall f)
   unfolding statusOn statusRead
   status-same = rw image-in (told-same (impossible (f .regs)) (statusOf (f .regs)) (afterStatusOf (f .regs)))
 
-  pub read-same : (x : List ℕ) → readOn (imageOf f) x ≡ shownWord (shownAs (dataRead (f .regs) x) (f .held))
+  pub read-same : (x : List ℕ) → readOn (floppyBytes f) x ≡ shownWord (readCall f x)
   unfolding readOn dataRead
   read-same x = rw image-in (told-same (impossibleIn x (f .regs)) (byteFrom (sourceOf (f .regs)) (f .regs) x) (regsRead (sourceOf (f .regs)) (f .regs)))
 
-  pub set-motor-same : (on : Bool) → setMotorOn on (imageOf f) ≡ afterWord (afterAs (motorSet on (f .regs)) (f .held))
+  pub set-motor-same : (on : Bool) → setMotorOn on (floppyBytes f) ≡ changedWord (changedAs (motorSet on (f .regs)) (f .held))
   unfolding setMotorOn motorSet
-  set-motor-same on = rw image-in (changed-same (impossible (f .regs)) (withMotor on (f .regs)))
+  set-motor-same on = rw image-in (changed-same (impossible (f .regs)) (regsWithMotor on (f .regs)))
 
-  pub set-disk-same : (present : Bool) → setDiskOn present (imageOf f) ≡ afterWord (afterAs (diskSet present (f .regs)) (f .held))
+  pub set-disk-same : (present : Bool) → setDiskOn present (floppyBytes f) ≡ changedWord (changedAs (diskSet present (f .regs)) (f .held))
   unfolding setDiskOn diskSet
   set-disk-same present =
       rw image-in
-      (changed-same (impossible (f .regs)) (withDrive (record { cylinder = f .regs .drive .cylinder; seek = f .regs .drive .seek; disk = present }) (f .regs)))
+      (changed-same (impossible (f .regs)) (regsWithDrive (record { cylinder = f .regs .drive .cylinder; seek = f .regs .drive .seek; disk = present }) (f .regs)))
 
   -- ---- a byte sent
 
-  left-same : (y : Result Sent) (t d x : List ℕ) → sentOn (imageOf f) (leftOf y (f .regs) (f .held) t d x) ≡ wroteWord (wroteAs (leftOf y (f .regs) (f .held) t d x))
+  left-same : (y : Result Sent) (t d x : List ℕ) → postedOn (floppyBytes f) (leftOf y (f .regs) (f .held) t d x) ≡ wroteWord (wroteAs (leftOf y (f .regs) (f .held) t d x))
   unfolding leftOf regsOf
   left-same (refused why) t d x = refl
   left-same (good s) t d x = refl
 
-  pub write-same : (t d x : List ℕ) (b : ℕ) → writeOn (imageOf f) t d x b ≡ wroteWord (wroteAs (dataWrite (f .regs) b (f .held) t d x))
+  pub write-same : (t d x : List ℕ) (b : ℕ) → writeOn (floppyBytes f) t d x b ≡ wroteWord (writeCall f b t d x)
   unfolding writeOn dataWrite numbersFor
   write-same t d x b = rw image-in (left-same (sentTo (f .regs) b (f .held) t d x) t d x)

@@ -1,31 +1,32 @@
 -- What each exported call answers and leaves, on the bytes that are lent. A refusal leaves every one of them.
-use Prim.Native.Nat.{ℕ, _+_, _*_, _^_}
+use Prim.Native.Nat.{ℕ, _+_, _-_, _*_, _^_}
 use mathlib.Core.Bool.{Bool, cond}
 use mathlib.Core.List.{List}
 use lib.ListN.{length}
 use lib.Dec.{eqb}
 use Rattle.fields.specs.Refusals.{Result, refused, good}
-use Rattle.tracks.specs.Block.{rowAt}
 use Rattle.fields.specs.declared.id.SectorId.{SectorId}
 use Rattle.fields.specs.declared.refusal.Refusal.the-variants.{BadController}
-use Rattle.store.specs.Store.{roomOf, wellLaid}
-use Rattle.store.specs.Spots.{storeSpot}
+use Rattle.store.specs.Spots.{placeOf}
 use Rattle.store.specs.Calls.{Outcome, outcome}
-use Rattle.store.specs.declared.find.Spot.{Spot}
-use Rattle.store.specs.declared.find.Spot.the-variants.{Nothing, At}
+use Rattle.store.specs.declared.find.Place.{Place}
+use Rattle.store.specs.declared.find.Place.the-variants as place
 use Rattle.store.specs.declared.answer.Done.{Done}
 use Rattle.store.specs.declared.answer.Done.the-variants as done
 use Rattle.registers.specs.declared.regs.Regs.{Regs}
 use Rattle.registers.specs.declared.regs.Told.{Told}
+use Rattle.registers.specs.declared.regs.Switched.{Switched}
+use Rattle.registers.specs.declared.regs.Receipt.{Receipt}
+use Rattle.registers.specs.declared.regs.Receipt.the-variants as receipt
 use Rattle.registers.specs.declared.regs.Written.{Written}
 use Rattle.registers.specs.declared.regs.Byte.{Byte}
 use Rattle.registers.specs.declared.regs.Byte.the-variants as byte
-use Rattle.registers.specs.Calls.{statusRead, dataRead, motorSet, diskSet, motorOf, trackOf, diskIn}
+use Rattle.registers.specs.Calls.{statusRead, dataRead, motorSet, diskSet, motorOf, currentTrack, diskIn}
 use Rattle.commands.specs.Lent.{Left, left}
 use Rattle.sending.specs.Calls.{dataWrite}
 use Rattle.floppy.specs.Calls.{newFloppy}
-use Rattle.layout.specs.Layout.{controllerLength, numbersFor, imageOf, heldAt, regsIn}
-use Rattle.words.specs.Words.{refusalWord, byteWord, flagWord, doneWord}
+use Rattle.layout.specs.Layout.{controllerLength, numbersFor, floppyBytes, heldAt, regsIn}
+use Rattle.words.specs.Words.{refusalWord, byteWord, flagWord, doneWord, receiptWord}
 
 -- ---- Calls that ask a controller
 
@@ -38,7 +39,7 @@ unfoldable pub motorOn : List ℕ → ℕ
 motorOn l = askedOf (regsIn l) (λ r. flagWord (motorOf r))
 
 unfoldable pub trackOn : List ℕ → ℕ
-trackOn l = askedOf (regsIn l) (λ r. byteWord (trackOf r))
+trackOn l = askedOf (regsIn l) (λ r. byteWord (currentTrack r))
 
 unfoldable pub diskOn : List ℕ → ℕ
 diskOn l = askedOf (regsIn l) (λ r. flagWord (diskIn r))
@@ -64,25 +65,25 @@ toldAs l (byte.Refused why) r = answered (refusalWord why) l
 abbrev pub toldOn : List ℕ → Told → Answered
 toldOn l a = toldAs l (a .answer) (a .regs)
 
-abbrev pub writtenAs : List ℕ → Done → Regs → Answered
-writtenAs l done.Good r = answered 0 (relaid l r)
-writtenAs l (done.Refused why) r = answered (refusalWord why) l
+abbrev pub switchedAs : List ℕ → Done → Regs → Answered
+switchedAs l done.Good r = answered 0 (relaid l r)
+switchedAs l (done.Refused why) r = answered (refusalWord why) l
 
-abbrev pub writtenOn : List ℕ → Written → Answered
-writtenOn l a = writtenAs l (a .done) (a .regs)
+abbrev pub switchedOn : List ℕ → Switched → Answered
+switchedOn l a = switchedAs l (a .done) (a .regs)
 
 -- `floppy_new`: 1 for the length
 abbrev pub newIf : Bool → List ℕ → Answered
-newIf fits l = cond fits (answered 0 (imageOf newFloppy)) (answered (refusalWord BadController) l)
+newIf fits l = cond fits (answered 0 (floppyBytes newFloppy)) (answered (refusalWord BadController) l)
 
 unfoldable pub newOn : List ℕ → Answered
 newOn l = newIf (eqb (length l) controllerLength) l
 
 unfoldable pub setMotorOn : Bool → List ℕ → Answered
-setMotorOn on l = answeredOf l (regsIn l) (λ r. writtenOn l (motorSet on r))
+setMotorOn on l = answeredOf l (regsIn l) (λ r. switchedOn l (motorSet on r))
 
 unfoldable pub setDiskOn : Bool → List ℕ → Answered
-setDiskOn present l = answeredOf l (regsIn l) (λ r. writtenOn l (diskSet present r))
+setDiskOn present l = answeredOf l (regsIn l) (λ r. switchedOn l (diskSet present r))
 
 unfoldable pub statusOn : List ℕ → Answered
 statusOn l = answeredOf l (regsIn l) (λ r. toldOn l (statusRead r))
@@ -96,19 +97,24 @@ readOn l x = answeredOf l (regsIn l) (λ r. toldOn l (dataRead r x))
 pub data Sending : Type 0 where
   sending : ℕ → List ℕ → List ℕ → List ℕ → List ℕ → Sending
 
-abbrev pub sentAs : List ℕ → Done → Regs → List ℕ → List ℕ → List ℕ → List ℕ → Sending
-sentAs l done.Good r h t d x = sending 0 (numbersFor r h) t d x
-sentAs l (done.Refused why) r h t d x = sending (refusalWord why) l t d x
+-- bytes anew where the byte was taken
+abbrev pub ifTaken : Receipt → List ℕ → List ℕ → List ℕ
+ifTaken receipt.Good new l = new
+ifTaken (receipt.Refused why) new l = l
 
-abbrev pub sentOn : List ℕ → Left → Sending
-sentOn l (left a h t d x) = sentAs l (a .done) (a .regs) h t d x
+-- the controller then, where its held bytes are in place, and the same with all that is lent
+abbrev pub writtenOn : List ℕ → Written → Answered
+writtenOn l a = answered (receiptWord (a .receipt)) (ifTaken (a .receipt) (relaid l (a .regs)) l)
+
+abbrev pub postedOn : List ℕ → Left → Sending
+postedOn l (left a h t d x) = sending (receiptWord (a .receipt)) (ifTaken (a .receipt) (numbersFor (a .regs) h) l) t d x
 
 abbrev pub sendingOf : List ℕ → List ℕ → List ℕ → List ℕ → Result Regs → (Regs → Sending) → Sending
 sendingOf l t d x (refused why) f = sending (refusalWord why) l t d x
 sendingOf l t d x (good r) f = f r
 
 unfoldable pub writeOn : List ℕ → List ℕ → List ℕ → List ℕ → ℕ → Sending
-writeOn l t d x b = sendingOf l t d x (regsIn l) (λ r. sentOn l (dataWrite r b (heldAt l) t d x))
+writeOn l t d x b = sendingOf l t d x (regsIn l) (λ r. postedOn l (dataWrite r b (heldAt l) t d x))
 
 -- ---- Calls on a store
 
@@ -116,11 +122,12 @@ writeOn l t d x b = sendingOf l t d x (regsIn l) (λ r. sentOn l (dataWrite r b 
 abbrev pub worded : Outcome Done → Outcome ℕ
 worded (outcome a t b) = outcome (doneWord a) t b
 
--- the place of a sector's bytes in bits 32 to 63, their number in bits 0 to 31; 0 where there is none
-abbrev pub partWord : List ℕ → Spot → ℕ
-partWord t Nothing = 0
-partWord t (At index row place) = place * 2 ^ 32 + rowAt t row .stored
+-- the place of a sector's bytes in bits 32 to 63, their number in bits 0 to 31; 0 where there is none or 2 applies
+abbrev pub partWord : Place → ℕ
+partWord (place.Refused why) = 0
+partWord place.Nothing = 0
+partWord (place.Part index row from to end) = from * 2 ^ 32 + (to - from)
 
--- `disk_sector`: 0 where 2 applies
+-- `disk_sector`
 unfoldable pub partOn : List ℕ → List ℕ → ℕ → ℕ → SectorId → ℕ
-partOn t b side cylinder id = cond (wellLaid t (roomOf b)) (partWord t (storeSpot t side cylinder id)) 0
+partOn t b side cylinder id = partWord (placeOf t b side cylinder id)

@@ -3,21 +3,25 @@
 
 use fields::Refusal;
 use fields::SectorId;
-use layout::HELD;
 use layout::LENGTH;
+use layout::NUMBERS;
 use layout::decode;
 use layout::encode;
 use layout::formed;
 use registers::Byte;
+use registers::Receipt;
+use registers::Switched;
 use registers::Told;
 use registers::Written;
 use store::Done;
 use store::Place;
+use store::TABLE;
 use words::byte_word;
 use words::done_word;
 use words::flag_word;
 use words::geometry_word;
 use words::has_word;
+use words::receipt_word;
 use words::refusal_word;
 use words::wide;
 ghost use mathlib.Core.Path.{_≡_};
@@ -28,22 +32,25 @@ ghost use Rattle.store.specs.Store.{tableLength, diskOf};
 ghost use Rattle.store.specs.Calls.{outcome, loadOf, freshOf, geometryOf, hasOf};
 ghost use Rattle.layout.specs.Layout.{controllerLength};
 ghost use Rattle.words.specs.Words.{geometryWord, hasWord};
-ghost use Rattle.host.specs.Calls.{answered, toldOn, writtenOn, newOn, setMotorOn, motorOn, trackOn, setDiskOn, diskOn, statusOn, readOn, sending, writeOn, worded, partOn};
+ghost use Rattle.host.specs.Calls.{answered, toldOn, switchedOn, writtenOn, newOn, setMotorOn, motorOn, trackOn, setDiskOn, diskOn, statusOn};
+ghost use Rattle.host.specs.Calls.{readOn, sending, writeOn, worded, partOn};
 
 // ---- lengths
 
+// Answers how many bytes a controller is, as a plain number.
 #[no_mangle]
 pub extern "C" fn floppy_controller_length() -> u64
     ensures { λ r. ⌜ r ≡ controllerLength ⌝ }
 {
-    1066
+    LENGTH as u64
 }
 
+// Answers how many bytes the table of a disk is, as a plain number.
 #[no_mangle]
 pub extern "C" fn disk_table_length() -> u64
     ensures { λ r. ⌜ r ≡ tableLength ⌝ }
 {
-    17609
+    TABLE as u64
 }
 
 // ---- the controller
@@ -64,9 +71,9 @@ fn tell(a: Told, controller: &mut [u8]) -> u64
     }
 }
 
-fn settle(a: Written, controller: &mut [u8]) -> u64
+fn switch(a: Switched, controller: &mut [u8]) -> u64
     requires { ⌜ length (now controller) ≡ controllerLength ⌝ }
-    ensures { λ r. ⌜ answered r (now (controller .exit)) ≡ writtenOn (now (controller .entry)) a ⌝ }
+    ensures { λ r. ⌜ answered r (now (controller .exit)) ≡ switchedOn (now (controller .entry)) a ⌝ }
 {
     let done = a.done;
     let regs = a.regs;
@@ -79,6 +86,21 @@ fn settle(a: Written, controller: &mut [u8]) -> u64
     }
 }
 
+fn settle(a: Written, controller: &mut [u8]) -> u64
+    requires { ⌜ length (now controller) ≡ controllerLength ⌝ }
+    ensures { λ r. ⌜ answered r (now (controller .exit)) ≡ writtenOn (now (controller .entry)) a ⌝ }
+{
+    let receipt = a.receipt;
+    match receipt {
+        Receipt::Good => {
+            encode(a.regs, controller);
+            receipt_word(receipt)
+        }
+        Receipt::Refused(_) => receipt_word(receipt),
+    }
+}
+
+// Makes the bytes a new controller: every one of them is 0 then, whatever they were. 1 for another length, and they stay.
 #[no_mangle]
 pub extern "C" fn floppy_new(controller: &mut [u8]) -> u64
     ensures { λ r. ⌜ answered r (now (controller .exit)) ≡ newOn (now (controller .entry)) ⌝ }
@@ -90,6 +112,7 @@ pub extern "C" fn floppy_new(controller: &mut [u8]) -> u64
     0
 }
 
+// Turns the motor off (0) or on, and changes nothing else. 1 where no controller has these bytes, and they stay.
 #[no_mangle]
 pub extern "C" fn floppy_set_motor(controller: &mut [u8], on: u8) -> u64
     ensures { λ r. ⌜ answered r (now (controller .exit)) ≡ setMotorOn (not (eqb on 0)) (now (controller .entry)) ⌝ }
@@ -98,9 +121,10 @@ pub extern "C" fn floppy_set_motor(controller: &mut [u8], on: u8) -> u64
         return refusal_word(Refusal::BadController);
     }
     let regs = decode(controller);
-    settle(regs.set_motor(on != 0), controller)
+    switch(regs.set_motor(on != 0), controller)
 }
 
+// Answers 1 if the motor is on, else 0. 1 as a refusal where no controller has these bytes.
 #[no_mangle]
 pub extern "C" fn floppy_motor(controller: &[u8]) -> u64
     ensures { λ r. ⌜ r ≡ motorOn (now (controller .entry)) ⌝ }
@@ -112,6 +136,7 @@ pub extern "C" fn floppy_motor(controller: &[u8]) -> u64
     flag_word(regs.motor())
 }
 
+// Answers the cylinder that the head is over. 1 as a refusal where no controller has these bytes.
 #[no_mangle]
 pub extern "C" fn floppy_current_track(controller: &[u8]) -> u64
     ensures { λ r. ⌜ r ≡ trackOn (now (controller .entry)) ⌝ }
@@ -123,6 +148,8 @@ pub extern "C" fn floppy_current_track(controller: &[u8]) -> u64
     byte_word(regs.current_track())
 }
 
+// Takes the disk out (0), or puts in the one that is lent from now on; all else is carried over, a write in progress included.
+// 1 where no controller has these bytes, and they stay.
 #[no_mangle]
 pub extern "C" fn floppy_set_disk(controller: &mut [u8], present: u8) -> u64
     ensures { λ r. ⌜ answered r (now (controller .exit)) ≡ setDiskOn (not (eqb present 0)) (now (controller .entry)) ⌝ }
@@ -131,9 +158,10 @@ pub extern "C" fn floppy_set_disk(controller: &mut [u8], present: u8) -> u64
         return refusal_word(Refusal::BadController);
     }
     let regs = decode(controller);
-    settle(regs.set_disk(present != 0), controller)
+    switch(regs.set_disk(present != 0), controller)
 }
 
+// Answers 1 if a disk is in the drive, else 0. 1 as a refusal where no controller has these bytes.
 #[no_mangle]
 pub extern "C" fn floppy_disk(controller: &[u8]) -> u64
     ensures { λ r. ⌜ r ≡ diskOn (now (controller .entry)) ⌝ }
@@ -145,6 +173,7 @@ pub extern "C" fn floppy_disk(controller: &[u8]) -> u64
     flag_word(regs.disk())
 }
 
+// Answers the main status, counts a read that was lost and ends a seek that is done. 1 where no controller has these bytes, and they stay.
 #[no_mangle]
 pub extern "C" fn floppy_read_status(controller: &mut [u8]) -> u64
     ensures { λ r. ⌜ answered r (now (controller .exit)) ≡ statusOn (now (controller .entry)) ⌝ }
@@ -156,6 +185,8 @@ pub extern "C" fn floppy_read_status(controller: &mut [u8]) -> u64
     tell(regs.read_status(), controller)
 }
 
+// Answers the next byte of the data, else of the reply, else 0. The transfer buffer is the one that the data were read into.
+// 1 where no controller has these bytes or their data end past the buffer, and they stay.
 #[no_mangle]
 pub extern "C" fn floppy_read_cmd(controller: &mut [u8], transfer: &[u8]) -> u64
     ensures { λ r. ⌜ answered r (now (controller .exit)) ≡ readOn (now (controller .entry)) (now (transfer .entry)) ⌝ }
@@ -167,6 +198,8 @@ pub extern "C" fn floppy_read_cmd(controller: &mut [u8], transfer: &[u8]) -> u64
     tell(regs.read_cmd(transfer), controller)
 }
 
+// Sends a byte to the data port. The last byte of a command has it obeyed, the last one of a write has it saved; the disk is the one in table and
+// bytes. A byte that is refused is not taken: every lent byte is as it came, and it may be sent again.
 #[no_mangle]
 pub extern "C" fn floppy_write_cmd(
     controller: &mut [u8],
@@ -175,25 +208,29 @@ pub extern "C" fn floppy_write_cmd(
     transfer: &mut [u8],
     b: u8,
 ) -> u64
-    ensures { λ r. ⌜ sending r (now (controller .exit)) (now (table .exit)) (now (bytes .exit)) (now (transfer .exit)) ≡ writeOn (now (controller .entry)) (now (table .entry)) (now (bytes .entry)) (now (transfer .entry)) b ⌝ }
+    ensures { λ r. ⌜ sending r (now (controller .exit)) (now (table .exit)) (now (bytes .exit)) (now (transfer .exit))
+        ≡ writeOn (now (controller .entry)) (now (table .entry)) (now (bytes .entry)) (now (transfer .entry)) b ⌝ }
 {
     if !formed(controller) {
         return refusal_word(Refusal::BadController);
     }
     let regs = decode(controller);
-    let a = sending::write_cmd(regs, b, &mut controller[HELD..], table, bytes, transfer);
+    let a = sending::write_cmd(regs, b, &mut controller[NUMBERS..], table, bytes, transfer);
     settle(a, controller)
 }
 
 // ---- the disk
 
+// Loads an image into table and bytes. A refusal (2 to 8) leaves every lent byte as it came.
 #[no_mangle]
 pub extern "C" fn disk_new(image: &[u8], table: &mut [u8], bytes: &mut [u8]) -> u64
-    ensures { λ r. ⌜ outcome r (now (table .exit)) (now (bytes .exit)) ≡ worded (loadOf (now (image .entry)) (now (table .entry)) (now (bytes .entry))) ⌝ }
+    ensures { λ r. ⌜ outcome r (now (table .exit)) (now (bytes .exit))
+        ≡ worded (loadOf (now (image .entry)) (now (table .entry)) (now (bytes .entry))) ⌝ }
 {
     done_word(loading::new(image, table, bytes))
 }
 
+// Puts a fresh disk into table and bytes: 40 tracks of nine sectors. A refusal (2 or 8) leaves every lent byte as it came.
 #[no_mangle]
 pub extern "C" fn disk_new_formatted(table: &mut [u8], bytes: &mut [u8]) -> u64
     ensures { λ r. ⌜ outcome r (now (table .exit)) (now (bytes .exit)) ≡ worded (freshOf (now (table .entry)) (now (bytes .entry))) ⌝ }
@@ -201,6 +238,7 @@ pub extern "C" fn disk_new_formatted(table: &mut [u8], bytes: &mut [u8]) -> u64
     done_word(loading::new_formatted(table, bytes))
 }
 
+// Answers the greatest cylinder of side 0, and of the other sides in bits 16 to 23. 2 for bytes that hold no disk.
 #[no_mangle]
 pub extern "C" fn disk_geometry(table: &[u8], bytes: &[u8]) -> u64
     ensures { λ r. ⌜ r ≡ geometryWord (geometryOf (diskOf (now (table .entry)) (now (bytes .entry)))) ⌝ }
@@ -208,6 +246,7 @@ pub extern "C" fn disk_geometry(table: &[u8], bytes: &[u8]) -> u64
     geometry_word(store::geometry(table, bytes))
 }
 
+// Answers 1 if a sector with this ID is on this side and cylinder, else 0. 2 for bytes that hold no disk.
 #[no_mangle]
 pub extern "C" fn disk_has_sector(
     table: &[u8],
@@ -225,6 +264,7 @@ pub extern "C" fn disk_has_sector(
     has_word(store::has_sector(table, bytes, side, cylinder, id))
 }
 
+// Answers where the bytes of that sector stand and how many they are, as a plain number; 0 where there is none, or no disk.
 #[no_mangle]
 pub extern "C" fn disk_sector(
     table: &[u8],
@@ -247,6 +287,7 @@ pub extern "C" fn disk_sector(
             row: _,
             from,
             to,
+            end: _,
         } => (from as u64) * 4294967296 + ((to - from) as u64),
     }
 }

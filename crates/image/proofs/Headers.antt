@@ -8,16 +8,16 @@ use lib.ListN.{length, getD, drop}
 use lib.Seq.{getD-drop}
 use borrow.Author.Tests.{lt-leb, le-leb, leb-true, leb-false}
 use Rattle.fields.specs.Refusals.{Result, refused, good}
-use Rattle.fields.specs.Bytes.{byteAt, numberAt, stringOf}
-use Rattle.image.specs.Dsk.{extendedText, normalText, kindOf, entries, tableEnd, headerOf, sizeEntry, entryOf}
-use Rattle.image.specs.Calls.{namedOf, openedOf}
+use Rattle.fields.specs.Bytes.{byteAt, numberAt, readString}
+use Rattle.image.specs.Dsk.{extendedText, normalText, imageKind, entries, tableEnd, headerOf, sizeEntry, entryOf}
+use Rattle.image.specs.Calls.{signatureOf, openedOf}
 use Rattle.fields.specs.declared.refusal.Refusal.{Refusal}
 use Rattle.fields.specs.declared.refusal.Refusal.the-variants.{ShortImage, NotAnImage}
 use Rattle.fields.specs.declared.read.Text.the-variants as text
 use Rattle.tracks.specs.declared.track.Kind.{Kind}
 use Rattle.tracks.specs.declared.track.Kind.the-variants.{Normal, Extended}
-use Rattle.image.specs.declared.walk.Named.{Named}
-use Rattle.image.specs.declared.walk.Named.the-variants as named
+use Rattle.image.specs.declared.walk.Signature.{Signature}
+use Rattle.image.specs.declared.walk.Signature.the-variants as signature
 use Rattle.image.specs.declared.walk.Opened.the-variants as opened
 use Rattle.image.specs.declared.walk.Entry.the-variants.{Absent, Size}
 use Rattle.fields.proofs.Readers.{told}
@@ -25,28 +25,28 @@ use Rattle.fields.proofs.Readers.{told}
 -- ---- the kind
 
 module _ (b : List ℕ) where
-  pub kind-short : (why : Refusal) → stringOf extendedText b 0 ≡ text.Refused why → named.Refused why ≡ namedOf (kindOf b)
-  unfolding kindOf
+  pub kind-short : (why : Refusal) → readString extendedText b 0 ≡ text.Refused why → signature.Refused why ≡ signatureOf (imageKind b)
+  unfolding imageKind
   kind-short why e = let f = told extendedText b 0 (text.Refused why) e in simp (f .0, f .1)
 
-  pub kind-extended : stringOf extendedText b 0 ≡ text.Same → named.Of Extended ≡ namedOf (kindOf b)
-  unfolding kindOf
+  pub kind-extended : readString extendedText b 0 ≡ text.Same → signature.Of Extended ≡ signatureOf (imageKind b)
+  unfolding imageKind
   kind-extended e = let f = told extendedText b 0 text.Same e in simp (f .0, f .1)
 
-  module _ (e : stringOf extendedText b 0 ≡ text.Other) where
+  module _ (e : readString extendedText b 0 ≡ text.Other) where
     -- twelve bytes are there, so the eight that the second compare needs are too
-    pub kind-never : (why : Refusal) → stringOf normalText b 0 ≡ text.Refused why → named.Refused why ≡ namedOf (kindOf b)
+    pub kind-never : (why : Refusal) → readString normalText b 0 ≡ text.Refused why → signature.Refused why ≡ signatureOf (imageKind b)
     kind-never why g =
         let f : 12 ≤ length b = leb-true 12 (length b) (told extendedText b 0 text.Other e .0) in
         let h : length b < 8 = leb-false 8 (length b) (told normalText b 0 (text.Refused why) g .0) in
         absurd (omega arith)
 
-    pub kind-normal : stringOf normalText b 0 ≡ text.Same → named.Of Normal ≡ namedOf (kindOf b)
-    unfolding kindOf
+    pub kind-normal : readString normalText b 0 ≡ text.Same → signature.Of Normal ≡ signatureOf (imageKind b)
+    unfolding imageKind
     kind-normal g = let f = told extendedText b 0 text.Other e in let h = told normalText b 0 text.Same g in simp (f .0, f .1, h .1)
 
-    pub kind-none : stringOf normalText b 0 ≡ text.Other → named.Refused NotAnImage ≡ namedOf (kindOf b)
-    unfolding kindOf
+    pub kind-none : readString normalText b 0 ≡ text.Other → signature.Refused NotAnImage ≡ signatureOf (imageKind b)
+    unfolding imageKind
     kind-none g = let f = told extendedText b 0 text.Other e in let h = told normalText b 0 text.Other g in simp (f .0, f .1, h .1)
 
 -- ---- the table
@@ -80,29 +80,29 @@ module _ (kind : Kind) (b : List ℕ) (i : ℕ) where
 
 -- ---- opening
 
--- what was named
-named-of : (r : Result Kind) (n : Named) → n ≡ namedOf r → (kind : Kind) → n ≡ named.Of kind → r ≡ good kind
-named-of (refused why) n e kind f = let z : named.Refused why ≡ named.Of kind = sym e ∙ f in cc
-named-of (good k) n e kind f = let z : named.Of k ≡ named.Of kind = sym e ∙ f in cc
+-- what the signature names
+signature-of : (r : Result Kind) (n : Signature) → n ≡ signatureOf r → (kind : Kind) → n ≡ signature.Of kind → r ≡ good kind
+signature-of (refused why) n e kind f = let z : signature.Refused why ≡ signature.Of kind = sym e ∙ f in cc
+signature-of (good k) n e kind f = let z : signature.Of k ≡ signature.Of kind = sym e ∙ f in cc
 
-named-refused : (r : Result Kind) (n : Named) → n ≡ namedOf r → (why : Refusal) → n ≡ named.Refused why → r ≡ refused why
-named-refused (refused w) n e why f = let z : named.Refused w ≡ named.Refused why = sym e ∙ f in cc
-named-refused (good k) n e why f = let z : named.Of k ≡ named.Refused why = sym e ∙ f in cc
+signature-refused : (r : Result Kind) (n : Signature) → n ≡ signatureOf r → (why : Refusal) → n ≡ signature.Refused why → r ≡ refused why
+signature-refused (refused w) n e why f = let z : signature.Refused w ≡ signature.Refused why = sym e ∙ f in cc
+signature-refused (good k) n e why f = let z : signature.Of k ≡ signature.Refused why = sym e ∙ f in cc
 
-module _ (b : List ℕ) (n : Named) (e : n ≡ namedOf (kindOf b)) where
-  pub open-refused : (why : Refusal) → n ≡ named.Refused why → opened.Refused why ≡ openedOf b (headerOf b)
+module _ (b : List ℕ) (n : Signature) (e : n ≡ signatureOf (imageKind b)) where
+  pub open-refused : (why : Refusal) → n ≡ signature.Refused why → opened.Refused why ≡ openedOf b (headerOf b)
   unfolding headerOf
-  open-refused why f = simp (named-refused (kindOf b) n e why f)
+  open-refused why f = simp (signature-refused (imageKind b) n e why f)
 
-  module _ (kind : Kind) (f : n ≡ named.Of kind) (m end : ℕ) (em : m ≡ entries b) (ee : end ≡ tableEnd kind m) where
+  module _ (kind : Kind) (f : n ≡ signature.Of kind) (m end : ℕ) (em : m ≡ entries b) (ee : end ≡ tableEnd kind m) where
     pub open-short : length b < end → opened.Refused ShortImage ≡ openedOf b (headerOf b)
     unfolding headerOf
     open-short l =
         let q : tableEnd kind (entries b) ≡ end = cc in
-        simp (named-of (kindOf b) n e kind f, q, lt-leb _ _ l)
+        simp (signature-of (imageKind b) n e kind f, q, lt-leb _ _ l)
 
     pub open-ready : end ≤ length b → opened.Ready (record { kind = kind; entry = 0; entries = m; at = 0x100 }) ≡ openedOf b (headerOf b)
     unfolding headerOf
     open-ready l =
         let q : tableEnd kind (entries b) ≡ end = cc in
-        simp (named-of (kindOf b) n e kind f, q, le-leb _ _ l) (cc)
+        simp (signature-of (imageKind b) n e kind f, q, le-leb _ _ l) (cc)

@@ -9,9 +9,9 @@ use lib.Dec.{ltb}
 use borrow.Author.Tests.{lt-ltb, le-ltb, ltb-true, ltb-false}
 use Rattle.fields.specs.Refusals.{Result, refused, good, after}
 use Rattle.fields.specs.Model.{Track, Disk, total, trackBytes, sectorCount, byteCount}
-use Rattle.tracks.specs.Block.{trackOf, headOf, blockOf}
+use Rattle.tracks.specs.Block.{trackOf, trackHead, blockOf}
 use Rattle.image.specs.Dsk.{Dsk, entries, entryOf, headerOf, before, placed, tracksFrom, imageOf, dskOf}
-use Rattle.image.specs.Calls.{openedOf, past, readStep, entryStep, stepOf, leftOf, tracksIn, toCome, surveyOf}
+use Rattle.image.specs.Calls.{openedOf, past, readStep, entryStep, stepOf, tracksLeft, tracksIn, toCome, startOf, surveyFrom, surveyed, surveyOf}
 use Rattle.fields.specs.declared.refusal.Refusal.{Refusal}
 use Rattle.tracks.specs.declared.track.Kind.{Kind}
 use Rattle.image.specs.declared.walk.Entry.{Entry}
@@ -22,10 +22,12 @@ use Rattle.tracks.specs.declared.track.Block.{Block}
 use Rattle.tracks.specs.declared.track.Block.the-variants as block
 use Rattle.image.specs.declared.walk.Step.{Step}
 use Rattle.image.specs.declared.walk.Step.the-variants as step
+use Rattle.image.specs.declared.walk.Totals.{Totals}
 use Rattle.image.specs.declared.walk.Surveyed.{Surveyed}
 use Rattle.image.specs.declared.walk.Surveyed.the-variants as survey
 use Rattle.image.specs.declared.walk.Opened.{Opened}
 use Rattle.image.specs.declared.walk.Opened.the-variants as opened
+use Rattle.fields.proofs.Tests.{never}
 use Rattle.tracks.proofs.Tracks.{down, track-there}
 
 -- ---- a step's answers
@@ -56,14 +58,14 @@ module _ (b : List ℕ) (w : Walk) where
         where
           answer : (q : Result Track) → k ≡ blockOf q → step.Refused why ≡ readStep w n q
           answer (refused y) f = let z : block.Refused y ≡ block.Refused why = sym f ∙ g in cc
-          answer (good y) f = let z : block.Head (headOf y) ≡ block.Refused why = sym f ∙ g in cc
+          answer (good y) f = let z : block.Head (trackHead y) ≡ block.Refused why = sym f ∙ g in cc
 
       pub step-track : (m : Head) → k ≡ block.Head m → step.Track m (past w (w .at + n)) ≡ stepOf b w
       step-track m g = read-is (step.Track m (past w (w .at + n))) answer
         where
           answer : (q : Result Track) → k ≡ blockOf q → step.Track m (past w (w .at + n)) ≡ readStep w n q
           answer (refused y) f = let z : block.Refused y ≡ block.Head m = sym f ∙ g in cc
-          answer (good y) f = let z : block.Head (headOf y) ≡ block.Head m = sym f ∙ g in cc
+          answer (good y) f = let z : block.Head (trackHead y) ≡ block.Head m = sym f ∙ g in cc
 
       -- a track that was read stands inside the image
       pub step-inside : (m : Head) → k ≡ block.Head m → w .at + 12 ≤ length b
@@ -99,25 +101,25 @@ pub record Handed (b : List ℕ) (w : Walk) (h : Head) (r : Walk) : Type 0 where
   pub moved : Moved w r
   pub track : Track
   pub read : trackOf (w .kind) (drop (w .at) b) ≡ good track
-  pub head : h ≡ headOf track
-  pub left : leftOf b w ≡ before track (leftOf b r)
+  pub head : h ≡ trackHead track
+  pub left : tracksLeft b w ≡ before track (tracksLeft b r)
 
 -- what a step's answer says of the tracks that the walk had left
 abbrev pub Says : List ℕ → Walk → Step → Type 0
-Says b w step.End = leftOf b w ≡ good []
-Says b w (step.Refused why) = leftOf b w ≡ refused why
-Says b w (step.Absent r) = Moved w r × (leftOf b w ≡ leftOf b r)
+Says b w step.End = tracksLeft b w ≡ good []
+Says b w (step.Refused why) = tracksLeft b w ≡ refused why
+Says b w (step.Absent r) = Moved w r × (tracksLeft b w ≡ tracksLeft b r)
 Says b w (step.Track h r) = Handed b w h r
 
 module _ (b : List ℕ) (w : Walk) where
-  left-end : w .entries ≤ w .entry → leftOf b w ≡ good []
-  unfolding leftOf tracksFrom
+  left-end : w .entries ≤ w .entry → tracksLeft b w ≡ good []
+  unfolding tracksLeft tracksFrom
   left-end h = let e : w .entries - w .entry ≡ 0 = omega arith in rw e
 
-  left-step : w .entry < w .entries → leftOf b w
-      ≡ placed (entryOf (w .kind) b (w .entry)) (leftOf b (past w (w .at)))
-      (λ size. after (trackOf (w .kind) (drop (w .at) b)) (λ t. before t (leftOf b (past w (w .at + size)))))
-  unfolding leftOf
+  left-step : w .entry < w .entries → tracksLeft b w
+      ≡ placed (entryOf (w .kind) b (w .entry)) (tracksLeft b (past w (w .at)))
+      (λ size. after (trackOf (w .kind) (drop (w .at) b)) (λ t. before t (tracksLeft b (past w (w .at + size)))))
+  unfolding tracksLeft
   left-step h =
       let p : 0 < w .entries - w .entry = omega arith in
       let e : w .entries - w .entry - 1 ≡ w .entries - (w .entry + 1) = omega arith in
@@ -154,73 +156,72 @@ module _ (b : List ℕ) (w : Walk) where
 -- ---- the totals
 
 -- a survey of so much that has passed and of what is left
-pub surveyFrom : Kind → ℕ → ℕ → ℕ → Result Disk → Surveyed
-surveyFrom kind tracks sectors bytes (refused why) = survey.Refused why
-surveyFrom kind tracks sectors bytes (good d) =
-    survey.Good (record { kind = kind; tracks = tracks + length d; sectors = sectors + sectorCount d; bytes = bytes + byteCount d })
+pub surveyPast : Walk → ℕ → ℕ → ℕ → Result Disk → Surveyed
+surveyPast start n s m (refused why) = survey.Refused why
+surveyPast start n s m (good d) = survey.Good (record { tracks = n + length d; sectors = s + sectorCount d; bytes = m + byteCount d }) start
 
-survey-whole : (kind : Kind) (r : Result Disk) → surveyFrom kind 0 0 0 r ≡ surveyOf (imageOf kind r)
-unfolding surveyFrom
-survey-whole kind (refused why) = refl
-survey-whole kind (good d) =
+survey-whole : (start : Walk) (r : Result Disk) → surveyPast start 0 0 0 r ≡ surveyFrom start r
+unfolding surveyPast
+survey-whole start (refused why) = refl
+survey-whole start (good d) =
     let x : 0 + length d ≡ length d = omega arith in
     let y : 0 + sectorCount d ≡ sectorCount d = omega arith in
     let z : 0 + byteCount d ≡ byteCount d = omega arith in
     cc
 
-survey-before : (kind : Kind) (n s m : ℕ) (t : Track) (r : Result Disk)
-    → surveyFrom kind n s m (before t r) ≡ surveyFrom kind (n + 1) (s + length (t .sectors)) (m + trackBytes t) r
-unfolding surveyFrom total
-survey-before kind n s m t (refused why) = refl
-survey-before kind n s m t (good d) =
+survey-before : (start : Walk) (n s m : ℕ) (t : Track) (r : Result Disk)
+    → surveyPast start n s m (before t r) ≡ surveyPast start (n + 1) (s + length (t .sectors)) (m + trackBytes t) r
+unfolding surveyPast total
+survey-before start n s m t (refused why) = refl
+survey-before start n s m t (good d) =
     let x : n + length (t ∷ d) ≡ n + 1 + length d = omega arith in
     let y : s + sectorCount (t ∷ d) ≡ s + length (t .sectors) + sectorCount d = omega arith in
     let z : m + byteCount (t ∷ d) ≡ m + trackBytes t + byteCount d = omega arith in
     cc
 
 -- what the survey's loop knows at its head
-pub record Counted (b : List ℕ) (kind : Kind) (start w : Walk) (n s m : ℕ) : Type 0 where
+pub record Counted (b : List ℕ) (start w : Walk) (n s m : ℕ) : Type 0 where
   pub few : w .entries ≤ 65025
   pub passed : n ≤ w .entry
   pub sectors-few : s ≤ 255 * n
   pub bytes-few : m ≤ 4294967295 * n
-  pub pending : surveyFrom kind n s m (leftOf b w) ≡ surveyOf (imageOf kind (leftOf b start))
+  pub pending : surveyPast start n s m (tracksLeft b w) ≡ surveyFrom start (tracksLeft b start)
 
-module _ (b : List ℕ) (kind : Kind) (start : Walk) where
-  pub count-start : start .entries ≤ 65025 → Counted b kind start start 0 0 0
+module _ (b : List ℕ) (start : Walk) where
+  pub count-start : start .entries ≤ 65025 → Counted b start start 0 0 0
   count-start h = record {
     few = h;
     passed = omega arith;
     sectors-few = omega arith;
     bytes-few = omega arith;
-    pending = survey-whole kind (leftOf b start);
+    pending = survey-whole start (tracksLeft b start);
   }
 
-  module _ (w : Walk) (n s m : ℕ) (c : Counted b kind start w n s m) where
-    pub count-refused : (why : Refusal) → Says b w (step.Refused why) → survey.Refused why ≡ surveyOf (imageOf kind (leftOf b start))
-    unfolding surveyFrom
-    count-refused why e = sym (ap (surveyFrom kind n s m) e) ∙ c .pending
+  module _ (w : Walk) (n s m : ℕ) (c : Counted b start w n s m) where
+    pub count-refused : (why : Refusal) → Says b w (step.Refused why) → survey.Refused why ≡ surveyFrom start (tracksLeft b start)
+    unfolding surveyPast
+    count-refused why e = sym (ap (surveyPast start n s m) e) ∙ c .pending
 
-    pub count-end : Says b w step.End → survey.Good (record { kind = kind; tracks = n; sectors = s; bytes = m }) ≡ surveyOf (imageOf kind (leftOf b start))
-    unfolding surveyFrom total
+    pub count-end : Says b w step.End → survey.Good (record { tracks = n; sectors = s; bytes = m }) start ≡ surveyFrom start (tracksLeft b start)
+    unfolding surveyPast total
     count-end e =
         let x : n + 0 ≡ n = omega arith in
         let y : s + 0 ≡ s = omega arith in
         let z : m + 0 ≡ m = omega arith in
-        let q : surveyFrom kind n s m (good []) ≡ surveyOf (imageOf kind (leftOf b start)) = sym (ap (surveyFrom kind n s m) e) ∙ c .pending in
+        let q : surveyPast start n s m (good []) ≡ surveyFrom start (tracksLeft b start) = sym (ap (surveyPast start n s m) e) ∙ c .pending in
         cc
 
-    pub count-absent : (r : Walk) → Says b w (step.Absent r) → Counted b kind start r n s m
+    pub count-absent : (r : Walk) → Says b w (step.Absent r) → Counted b start r n s m
     count-absent r e = record {
       few = omega (arith, c .few, e .0 .same);
       passed = omega (arith, c .passed, e .0 .next);
       sectors-few = c .sectors-few;
       bytes-few = c .bytes-few;
-      pending = sym (ap (surveyFrom kind n s m) (e .1)) ∙ c .pending;
+      pending = sym (ap (surveyPast start n s m) (e .1)) ∙ c .pending;
     }
 
     pub count-track : (h : Head) (r : Walk) → Says b w (step.Track h r) → h .sectors < 256 → h .stored < 4294967296
-        → Counted b kind start r (n + 1) (s + h .sectors) (m + h .stored)
+        → Counted b start r (n + 1) (s + h .sectors) (m + h .stored)
     count-track h r e l k =
         let x : h .sectors ≡ length (e .track .sectors) = ap (λ (y : Head). y .sectors) (e .head) in
         let y : h .stored ≡ trackBytes (e .track) = ap (λ (y : Head). y .stored) (e .head) in
@@ -229,73 +230,99 @@ module _ (b : List ℕ) (kind : Kind) (start : Walk) where
           passed = omega (arith, c .passed, e .moved .next);
           sectors-few = omega (arith, c .sectors-few);
           bytes-few = omega (arith, c .bytes-few);
-          pending = rw (x, y) (sym (survey-before kind n s m (e .track) (leftOf b r)) ∙ sym (ap (surveyFrom kind n s m) (e .left)) ∙ c .pending);
+          pending =
+              rw (x, y)
+              (sym (survey-before start n s m (e .track) (tracksLeft b r)) ∙ sym (ap (surveyPast start n s m) (e .left)) ∙ c .pending);
         }
 
--- a survey that never opened, and one of an opened image
-module _ (b : List ℕ) (o : Opened) (e : o ≡ openedOf b (headerOf b)) where
-  pub survey-refused : (why : Refusal) → o ≡ opened.Refused why → survey.Refused why ≡ surveyOf (dskOf b)
-  unfolding dskOf
-  survey-refused why f = told (headerOf b) (sym e ∙ f)
-    where
-      told : (h : Result Kind) → openedOf b h ≡ opened.Refused why → survey.Refused why ≡ surveyOf (after h (λ kind. imageOf kind (tracksFrom kind b 0 0x100 (entries b))))
-      told (refused y) q = cc
-      told (good kind) q = cc
+-- ---- a survey, and what it hands on
 
-  -- an opened image is what its walk has to hand out
-  pub opened-dsk : (w : Walk) → o ≡ opened.Ready w → dskOf b ≡ imageOf (w .kind) (leftOf b w)
-  unfolding dskOf leftOf
-  opened-dsk w f = told (headerOf b) (sym e ∙ f)
-    where
-      told : (h : Result Kind) → openedOf b h ≡ opened.Ready w
-          → after h (λ kind. imageOf kind (tracksFrom kind b 0 0x100 (entries b)))
-          ≡ imageOf (w .kind) (tracksFrom (w .kind) b (w .entry) (w .at) (w .entries - w .entry))
-      told (refused y) q = cc
-      told (good kind) q =
-          let p : w ≡ record { kind = kind; entry = 0; entries = entries b; at = 0x100 } = cc in
-          let z : entries b - 0 ≡ entries b = omega arith in
-          rw p (rw z)
+module _ (b : List ℕ) where
+  -- a walk at the first entry has all tracks to hand out
+  start-left : (kind : Kind) → tracksLeft b (startOf b kind) ≡ tracksFrom kind b 0 0x100 (entries b)
+  unfolding tracksLeft
+  start-left kind = let z : entries b - 0 ≡ entries b = omega arith in rw z
 
-  pub survey-opened : (w : Walk) → o ≡ opened.Ready w → (r : Surveyed) → r ≡ surveyOf (imageOf (w .kind) (leftOf b w)) → r ≡ surveyOf (dskOf b)
-  survey-opened w f r g = g ∙ ap surveyOf (sym (opened-dsk w f))
+  survey-image : (kind : Kind) (r : Result Disk) → surveyed b (imageOf kind r) ≡ surveyFrom (startOf b kind) r
+  survey-image kind (refused why) = refl
+  survey-image kind (good d) = refl
 
-  -- an opened image has at most 65,025 entries
-  pub opened-few : (w : Walk) → o ≡ opened.Ready w → w .entries ≡ entries b
-  opened-few w f = told (headerOf b) (sym e ∙ f)
-    where
-      told : (h : Result Kind) → openedOf b h ≡ opened.Ready w → w .entries ≡ entries b
-      told (refused y) q = let z : _≡_ {A = ℕ} 0 1 = cc in absurd (omega arith)
-      told (good kind) q = cc
+  module _ (o : Opened) (e : o ≡ openedOf b (headerOf b)) where
+    pub survey-refused : (why : Refusal) → o ≡ opened.Refused why → survey.Refused why ≡ surveyOf b
+    unfolding surveyOf dskOf
+    survey-refused why f = told (headerOf b) (sym e ∙ f)
+      where
+        told : (h : Result Kind) → openedOf b h ≡ opened.Refused why
+            → survey.Refused why ≡ surveyed b (after h (λ kind. imageOf kind (tracksFrom kind b 0 0x100 (entries b))))
+        told (refused y) q = cc
+        told (good kind) q = cc
+
+    pub survey-opened : (w : Walk) → o ≡ opened.Ready w → (r : Surveyed) → r ≡ surveyFrom w (tracksLeft b w) → r ≡ surveyOf b
+    unfolding surveyOf dskOf
+    survey-opened w f r g = g ∙ told (headerOf b) (sym e ∙ f)
+      where
+        told : (h : Result Kind) → openedOf b h ≡ opened.Ready w
+            → surveyFrom w (tracksLeft b w) ≡ surveyed b (after h (λ kind. imageOf kind (tracksFrom kind b 0 0x100 (entries b))))
+        told (refused y) q = cc
+        told (good kind) q =
+            let p : w ≡ startOf b kind = cc in
+            ap (λ (y : Walk). surveyFrom y (tracksLeft b y)) p
+            ∙ ap (surveyFrom (startOf b kind)) (start-left kind)
+            ∙ sym (survey-image kind (tracksFrom kind b 0 0x100 (entries b)))
+
+    -- an opened image has at most 65,025 entries
+    pub opened-few : (w : Walk) → o ≡ opened.Ready w → w .entries ≡ entries b
+    opened-few w f = told (headerOf b) (sym e ∙ f)
+      where
+        told : (h : Result Kind) → openedOf b h ≡ opened.Ready w → w .entries ≡ entries b
+        told (refused y) q = never (cc)
+        told (good kind) q = cc
+
+-- an image that was surveyed as good: its disk, how much that is, and the walk that has it to hand out
+pub record GoodImage (b : List ℕ) (n : Totals) (w : Walk) : Type 0 where
+  pub dsk : Dsk
+  pub read : dskOf b ≡ good dsk
+  pub tracks : n .tracks ≡ length (dsk .disk)
+  pub sectors : n .sectors ≡ sectorCount (dsk .disk)
+  pub bytes : n .bytes ≡ byteCount (dsk .disk)
+  pub kind : w .kind ≡ dsk .kind
+  pub whole : tracksLeft b w ≡ good (dsk .disk)
+
+pub surveyed-good : (b : List ℕ) (n : Totals) (w : Walk) → survey.Good n w ≡ surveyOf b → GoodImage b n w
+unfolding surveyOf dskOf
+surveyed-good b n w e = told (headerOf b) refl e
+  where
+    at-tracks : (kind : Kind) (r : Result Disk) → tracksFrom kind b 0 0x100 (entries b) ≡ r → headerOf b ≡ good kind
+        → survey.Good n w ≡ surveyed b (imageOf kind r) → GoodImage b n w
+    at-tracks kind (refused why) q h f = never (cc)
+    at-tracks kind (good d) q h f =
+        let p : w ≡ startOf b kind = cc in
+        record {
+          dsk = record { kind = kind; disk = d };
+          read = rw (h, q);
+          tracks = cc;
+          sectors = cc;
+          bytes = cc;
+          kind = ap (λ (y : Walk). y .kind) p;
+          whole = ap (tracksLeft b) p ∙ start-left b kind ∙ q;
+        }
+
+    told : (h : Result Kind) → headerOf b ≡ h
+        → survey.Good n w ≡ surveyed b (after h (λ kind. imageOf kind (tracksFrom kind b 0 0x100 (entries b)))) → GoodImage b n w
+    told (refused y) q f = never (cc)
+    told (good kind) q f = at-tracks kind (tracksFrom kind b 0 0x100 (entries b)) refl q f
 
 -- ---- a walk over tracks that are good
 
 -- a track before the rest, both read as good
-pub come-split : (b : List ℕ) (w r : Walk) (t : Track) → leftOf b w ≡ before t (leftOf b r) → leftOf b w ≡ good (toCome b w)
-    → (leftOf b r ≡ good (toCome b r)) × (toCome b w ≡ t ∷ toCome b r)
-come-split b w r t e f = by (leftOf b r) refl
+pub come-split : (b : List ℕ) (w r : Walk) (t : Track) → tracksLeft b w ≡ before t (tracksLeft b r) → tracksLeft b w ≡ good (toCome b w)
+    → (tracksLeft b r ≡ good (toCome b r)) × (toCome b w ≡ t ∷ toCome b r)
+come-split b w r t e f = by (tracksLeft b r) refl
   where
-    by : (q : Result Disk) → leftOf b r ≡ q → (q ≡ good (tracksIn q)) × (toCome b w ≡ t ∷ tracksIn q)
+    by : (q : Result Disk) → tracksLeft b r ≡ q → (q ≡ good (tracksIn q)) × (toCome b w ≡ t ∷ tracksIn q)
     by (refused why) g =
-        let x : before t (leftOf b r) ≡ refused why = ap (before t) g in
-        let z : _≡_ {A = ℕ} 0 1 = cc in absurd (omega arith)
+        let x : before t (tracksLeft b r) ≡ refused why = ap (before t) g in
+        never (cc)
     by (good d) g =
-        let x : leftOf b w ≡ good (t ∷ d) = e ∙ ap (before t) g in
+        let x : tracksLeft b w ≡ good (t ∷ d) = e ∙ ap (before t) g in
         (refl, ap tracksIn x)
-
-module _ (b : List ℕ) (d : Dsk) (read : dskOf b ≡ good d) (o : Opened) (e : o ≡ openedOf b (headerOf b)) where
-  -- an image that was read opens
-  pub read-opens : (why : Refusal) → o ≡ opened.Refused why → ⊥
-  unfolding dskOf
-  read-opens why f = told (headerOf b) (sym e ∙ f) read
-    where
-      told : (k : Result Kind) → openedOf b k ≡ opened.Refused why → after k (λ kind. imageOf kind (tracksFrom kind b 0 0x100 (entries b))) ≡ good d → ⊥
-      told (refused y) p q = let z : _≡_ {A = ℕ} 0 1 = cc in omega arith
-      told (good k) p q = let z : _≡_ {A = ℕ} 0 1 = cc in omega arith
-
-  -- and what the walk has to hand out is its disk
-  pub read-whole : (w : Walk) → o ≡ opened.Ready w → leftOf b w ≡ good (d .disk)
-  read-whole w f = told (leftOf b w) (sym (opened-dsk b o e w f) ∙ read)
-    where
-      told : (q : Result Disk) → imageOf (w .kind) q ≡ good d → q ≡ good (d .disk)
-      told (refused y) p = cc
-      told (good x) p = let z : record { kind = w .kind; disk = x } ≡ d = cc in ap (λ (y : Dsk). good (y .disk)) z

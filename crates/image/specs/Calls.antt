@@ -6,13 +6,13 @@ use lib.ListN.{length, drop}
 use lib.Dec.{ltb}
 use Rattle.fields.specs.Refusals.{Result, refused, good}
 use Rattle.fields.specs.Model.{Track, Disk, sectorCount, byteCount}
-use Rattle.tracks.specs.Block.{trackOf, headOf}
-use Rattle.image.specs.Dsk.{Dsk, entries, entryOf, tracksFrom}
+use Rattle.tracks.specs.Block.{trackOf, trackHead}
+use Rattle.image.specs.Dsk.{Dsk, entries, entryOf, tracksFrom, dskOf}
 use Rattle.tracks.specs.declared.track.Kind.{Kind}
 use Rattle.image.specs.declared.walk.Entry.{Entry}
 use Rattle.image.specs.declared.walk.Entry.the-variants.{Absent, Size}
-use Rattle.image.specs.declared.walk.Named.{Named}
-use Rattle.image.specs.declared.walk.Named.the-variants as named
+use Rattle.image.specs.declared.walk.Signature.{Signature}
+use Rattle.image.specs.declared.walk.Signature.the-variants as signature
 use Rattle.image.specs.declared.walk.Walk.{Walk}
 use Rattle.image.specs.declared.walk.Surveyed.{Surveyed}
 use Rattle.image.specs.declared.walk.Surveyed.the-variants as survey
@@ -21,21 +21,32 @@ use Rattle.image.specs.declared.walk.Opened.the-variants as opened
 use Rattle.image.specs.declared.walk.Step.{Step}
 use Rattle.image.specs.declared.walk.Step.the-variants as step
 
--- a survey: the refusal, or the kind and how much there is
-abbrev pub surveyOf : Result Dsk → Surveyed
-surveyOf (refused why) = survey.Refused why
-surveyOf (good d) =
-    survey.Good (record { kind = d .kind; tracks = length (d .disk); sectors = sectorCount (d .disk); bytes = byteCount (d .disk) })
-
--- the kind that an image's first bytes name
-abbrev pub namedOf : Result Kind → Named
-namedOf (refused why) = named.Refused why
-namedOf (good kind) = named.Of kind
+-- the kind that an image's signature names
+abbrev pub signatureOf : Result Kind → Signature
+signatureOf (refused why) = signature.Refused why
+signatureOf (good kind) = signature.Of kind
 
 -- a walk at an image's first entry
+abbrev pub startOf : List ℕ → Kind → Walk
+startOf b kind = record { kind = kind; entry = 0; entries = entries b; at = 0x100 }
+
+-- opening an image
 abbrev pub openedOf : List ℕ → Result Kind → Opened
 openedOf b (refused why) = opened.Refused why
-openedOf b (good kind) = opened.Ready (record { kind = kind; entry = 0; entries = entries b; at = 0x100 })
+openedOf b (good kind) = opened.Ready (startOf b kind)
+
+-- a survey of the tracks that a walk hands out: the refusal, or how much there is, and the walk
+abbrev pub surveyFrom : Walk → Result Disk → Surveyed
+surveyFrom w (refused why) = survey.Refused why
+surveyFrom w (good d) = survey.Good (record { tracks = length d; sectors = sectorCount d; bytes = byteCount d }) w
+
+-- a survey of an image
+abbrev pub surveyed : List ℕ → Result Dsk → Surveyed
+surveyed b (refused why) = survey.Refused why
+surveyed b (good d) = surveyFrom (startOf b (d .kind)) (good (d .disk))
+
+unfoldable pub surveyOf : List ℕ → Surveyed
+surveyOf b = surveyed b (dskOf b)
 
 -- the walk past one entry, with the next track at a place
 abbrev pub past : Walk → ℕ → Walk
@@ -44,7 +55,7 @@ past w at = record { kind = w .kind; entry = w .entry + 1; entries = w .entries;
 -- one step: no entry is left, the track is not there, or its block is read
 abbrev pub readStep : Walk → ℕ → Result Track → Step
 readStep w size (refused why) = step.Refused why
-readStep w size (good t) = step.Track (headOf t) (past w (w .at + size))
+readStep w size (good t) = step.Track (trackHead t) (past w (w .at + size))
 
 abbrev pub entryStep : List ℕ → Walk → Entry → Step
 entryStep b w Absent = step.Absent (past w (w .at))
@@ -54,8 +65,8 @@ unfoldable pub stepOf : List ℕ → Walk → Step
 stepOf b w = cond (ltb (w .entry) (w .entries)) (entryStep b w (entryOf (w .kind) b (w .entry))) step.End
 
 -- the tracks that a walk has still to hand out
-unfoldable pub leftOf : List ℕ → Walk → Result Disk
-leftOf b w = tracksFrom (w .kind) b (w .entry) (w .at) (w .entries - w .entry)
+unfoldable pub tracksLeft : List ℕ → Walk → Result Disk
+tracksLeft b w = tracksFrom (w .kind) b (w .entry) (w .at) (w .entries - w .entry)
 
 -- the tracks that it has still to hand out where they are good, none where they are not
 abbrev pub tracksIn : Result Disk → Disk
@@ -63,4 +74,4 @@ tracksIn (refused why) = []
 tracksIn (good d) = d
 
 abbrev pub toCome : List ℕ → Walk → Disk
-toCome b w = tracksIn (leftOf b w)
+toCome b w = tracksIn (tracksLeft b w)

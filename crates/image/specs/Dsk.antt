@@ -26,8 +26,8 @@ abbrev pub normalText : List ℕ
 normalText = 0x4D ∷ 0x56 ∷ 0x20 ∷ 0x2D ∷ 0x20 ∷ 0x43 ∷ 0x50 ∷ 0x43 ∷ []
 
 -- the kind, by the first 12 bytes
-unfoldable pub kindOf : List ℕ → Result Kind
-kindOf b =
+unfoldable pub imageKind : List ℕ → Result Kind
+imageKind b =
     need (leb 12 (length b)) ShortImage
     (cond (textAt extendedText b 0) (good Extended) (cond (textAt normalText b 0) (good Normal) (refused NotAnImage)))
 
@@ -42,7 +42,7 @@ tableEnd Extended n = 0x34 + n
 
 -- the kind of an image whose disk block is good
 unfoldable pub headerOf : List ℕ → Result Kind
-headerOf b = after (kindOf b) (λ kind. need (leb (tableEnd kind (entries b)) (length b)) ShortImage (good kind))
+headerOf b = after (imageKind b) (λ kind. need (leb (tableEnd kind (entries b)) (length b)) ShortImage (good kind))
 
 -- an entry of an extended table: 0 is a track that is not there, else the size in units of 256
 abbrev pub sizeEntry : ℕ → Entry

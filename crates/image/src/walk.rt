@@ -11,11 +11,11 @@ use tracks::read_track;
 ghost use mathlib.Core.Path.{_≡_};
 ghost use Prim.Native.Nat.{_≤_, _<_};
 ghost use lib.ListN.{drop};
-ghost use Rattle.image.specs.Dsk.{kindOf, headerOf, entries, tableEnd, entryOf, imageOf, dskOf};
-ghost use Rattle.image.specs.Calls.{namedOf, openedOf, stepOf, leftOf, surveyOf};
+ghost use Rattle.image.specs.Dsk.{imageKind, headerOf, entries, tableEnd, entryOf};
+ghost use Rattle.image.specs.Calls.{signatureOf, openedOf, stepOf, tracksLeft, surveyFrom, surveyOf};
 
-// What the first bytes of an image name.
-enum Named {
+// What the signature of an image names.
+enum Signature {
     Refused(Refusal),
     Of(Kind),
 }
@@ -36,15 +36,15 @@ pub struct Walk {
 
 // How much an image holds.
 pub struct Totals {
-    pub kind: Kind,
     pub tracks: usize,
     pub sectors: usize,
     pub bytes: usize,
 }
 
+// What an image that is good holds, and the walk over it, at its first entry.
 pub enum Surveyed {
     Refused(Refusal),
-    Good(Totals),
+    Good(Totals, Walk),
 }
 
 pub enum Opened {
@@ -60,16 +60,16 @@ pub enum Step {
 }
 
 // The kind that an image's first 12 bytes name.
-fn kind_of(image: &[u8]) -> Named
-    ensures { λ r. ⌜ r ≡ namedOf (kindOf (now (image .entry))) ⌝ }
+fn read_signature(image: &[u8]) -> Signature
+    ensures { λ r. ⌜ r ≡ signatureOf (imageKind (now (image .entry))) ⌝ }
 {
     match read_string(image, 0, b"EXTENDED CPC") {
-        Text::Refused(why) => Named::Refused(why),
-        Text::Same => Named::Of(Kind::Extended),
+        Text::Refused(why) => Signature::Refused(why),
+        Text::Same => Signature::Of(Kind::Extended),
         Text::Other => match read_string(image, 0, b"MV - CPC") {
-            Text::Refused(why) => Named::Refused(why),
-            Text::Same => Named::Of(Kind::Normal),
-            Text::Other => Named::Refused(Refusal::NotAnImage),
+            Text::Refused(why) => Signature::Refused(why),
+            Text::Same => Signature::Of(Kind::Normal),
+            Text::Other => Signature::Refused(Refusal::NotAnImage),
         },
     }
 }
@@ -89,9 +89,9 @@ fn table_end(kind: Kind, entries: usize) -> usize
 pub fn open(image: &[u8]) -> Opened
     ensures { λ r. ⌜ r ≡ openedOf (now (image .entry)) (headerOf (now (image .entry))) ⌝ }
 {
-    match kind_of(image) {
-        Named::Refused(why) => Opened::Refused(why),
-        Named::Of(kind) => {
+    match read_signature(image) {
+        Signature::Refused(why) => Opened::Refused(why),
+        Signature::Of(kind) => {
             let entries = entries_of(image);
             let end = table_end(kind, entries);
             if image.len() < end {
@@ -175,12 +175,11 @@ impl Walk {
     }
 }
 
-// How much the tracks that a walk has still to hand out hold.
+// How much the tracks that a walk has still to hand out hold; the walk is handed on.
 fn totals_of(image: &[u8], start: Walk) -> Surveyed
     requires { ⌜ start .entries ≤ 65025 ⌝ }
-    ensures { λ r. ⌜ r ≡ surveyOf (imageOf (start .kind) (leftOf (now (image .entry)) start)) ⌝ }
+    ensures { λ r. ⌜ r ≡ surveyFrom start (tracksLeft (now (image .entry)) start) ⌝ }
 {
-    let kind = start.kind;
     let mut walk = start;
     let mut tracks: usize = 0;
     let mut sectors: usize = 0;
@@ -189,12 +188,14 @@ fn totals_of(image: &[u8], start: Walk) -> Surveyed
         match walk.step(image) {
             Step::Refused(why) => return Surveyed::Refused(why),
             Step::End => {
-                return Surveyed::Good(Totals {
-                    kind,
-                    tracks,
-                    sectors,
-                    bytes,
-                });
+                return Surveyed::Good(
+                    Totals {
+                        tracks,
+                        sectors,
+                        bytes,
+                    },
+                    start,
+                );
             }
             Step::Absent(rest) => walk = rest,
             Step::Track(head, rest) => {
@@ -207,9 +208,9 @@ fn totals_of(image: &[u8], start: Walk) -> Surveyed
     }
 }
 
-// Reads an image through: why it is refused, or its kind and how much it holds.
+// Reads an image through: why it is refused, or how much it holds, and the walk over it.
 pub fn survey(image: &[u8]) -> Surveyed
-    ensures { λ r. ⌜ r ≡ surveyOf (dskOf (now (image .entry))) ⌝ }
+    ensures { λ r. ⌜ r ≡ surveyOf (now (image .entry)) ⌝ }
 {
     match open(image) {
         Opened::Refused(why) => Surveyed::Refused(why),

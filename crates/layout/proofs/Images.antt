@@ -17,18 +17,12 @@ use Rattle.layout.specs.Layout.{controllerLength, commandFor, readingFor
 
 -- ---- bytes as registers
 
--- numbers in two and in four bytes
-pub number2 : (l : List ℕ) (at : ℕ) → byteAt l at + 256 * byteAt l (at + 1) ≡ numberAt 2 l at
+-- a number in four bytes is two words
+pub two-words : (l : List ℕ) (at : ℕ) → numberAt 2 l at + 65536 * numberAt 2 l (at + 2) ≡ numberAt 4 l at
 unfolding numberAt
-number2 l at = omega arith
-
-pub number4 : (l : List ℕ) (at : ℕ)
-    → byteAt l at + 256 * (byteAt l (at + 1) + 256 * (byteAt l (at + 2) + 256 * byteAt l (at + 3))) ≡ numberAt 4 l at
-unfolding numberAt
-number4 l at =
+two-words l at =
     let two : at + 1 + 1 ≡ at + 2 = omega arith in
-    let three : at + 2 + 1 ≡ at + 3 = omega arith in
-    rw (two, three) (omega arith)
+    rw two (omega arith)
 
 -- the numbers, written over the first bytes
 pub laid-over : (b l : List ℕ) (r : Regs) → b ≡ numbersFor r [] → over l 0 b ≡ numbersFor r (heldAt l)

@@ -13,7 +13,7 @@ use Rattle.fields.proofs.Tests.{and-fst, and-snd}
 use Rattle.registers.specs.declared.regs.Regs.{Regs}
 use Rattle.registers.specs.declared.regs.Seek.{Seek}
 use Rattle.registers.specs.declared.regs.Seek.the-variants.{Idle, Running, Done}
-use Rattle.layout.specs.Layout.{controllerLength, flagByte, seekByte, bytesFor, numbersFor, flagAt, seekAt, regsAt, heldAt, formed}
+use Rattle.layout.specs.Layout.{controllerLength, flagByte, seekByte, partFor, numbersFor, flagAt, seekAt, regsAt, heldAt, formed}
 use Rattle.layout.proofs.Images.{formed-long}
 
 -- ---- one by one
@@ -34,7 +34,7 @@ long-back : (n : ℕ) → n < 4294967296 → n % 256 + 256 * (n / 256 % 256 + 25
 long-back n h = omega arith
 
 -- so many bytes from a place on, one by one, are the list from there on
-bytes-are : (n k : ℕ) (x : List ℕ) → length x ≡ k + n → bytesFor n x k [] ≡ drop k x
+bytes-are : (n k : ℕ) (x : List ℕ) → length x ≡ k + n → partFor n x k [] ≡ drop k x
 bytes-are zero k x h = sym (drop-of-length-le x {i = k} (omega (arith, h)))
 bytes-are (suc n) k x h =
     let e : k + 1 ≡ suc k = omega arith in
@@ -87,7 +87,7 @@ seek-kept (suc (suc zero)) h = refl
 seek-kept (suc (suc (suc b))) h = absurd (omega (arith, h))
 
 -- a list of so many numbers at least is its first ones, one by one, and the rest
-front-is : (n k : ℕ) (x : List ℕ) → k + n ≤ length x → bytesFor n x k (drop (k + n) x) ≡ drop k x
+front-is : (n k : ℕ) (x : List ℕ) → k + n ≤ length x → partFor n x k (drop (k + n) x) ≡ drop k x
 front-is zero k x h = let e : k + 0 ≡ k = omega arith in rw e
 front-is (suc n) k x h =
     let e : k + 1 ≡ suc k = omega arith in
@@ -148,7 +148,7 @@ module _ (l : List ℕ) (b : (k : ℕ) → byteAt l k < 256) where
   written-back e =
       let f = flags l e in
       (λ i.
-      bytesFor 9 l 0 (byteAt l 9 ∷ bytesFor 7 l 10 (byteAt l 17 ∷ byteAt l 18
+      partFor 9 l 0 (byteAt l 9 ∷ partFor 7 l 10 (byteAt l 17 ∷ byteAt l 18
       ∷ four0 19 i ∷ four1 19 i ∷ four2 19 i ∷ four3 19 i
       ∷ four0 23 i ∷ four1 23 i ∷ four2 23 i ∷ four3 23 i
       ∷ byteAt l 27 ∷ flag-kept (byteAt l 28) (f .motor) i ∷ two0 29 i ∷ two1 29 i

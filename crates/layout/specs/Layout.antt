@@ -40,13 +40,13 @@ numberFor zero n rest = rest
 numberFor (suc width) n rest = n % 256 ∷ numberFor width (n / 256) rest
 
 -- so many bytes of a list from a place, before what follows them
-abbrev pub bytesFor : ℕ → List ℕ → ℕ → List ℕ → List ℕ
-bytesFor zero x at rest = rest
-bytesFor (suc count) x at rest = byteAt x at ∷ bytesFor count x (at + 1) rest
+abbrev pub partFor : ℕ → List ℕ → ℕ → List ℕ → List ℕ
+partFor zero x at rest = rest
+partFor (suc count) x at rest = byteAt x at ∷ partFor count x (at + 1) rest
 
 -- the command, its count and the reply, before what follows them
 abbrev pub commandFor : Regs → List ℕ → List ℕ
-commandFor r rest = bytesFor 9 (r .command) 0 (r .count ∷ bytesFor 7 (r .reply) 0 rest)
+commandFor r rest = partFor 9 (r .command) 0 (r .count ∷ partFor 7 (r .reply) 0 rest)
 
 -- how far the reply and the data are read, before what follows
 abbrev pub readingFor : Regs → List ℕ → List ℕ
@@ -72,21 +72,21 @@ unfoldable pub numbersFor : Regs → List ℕ → List ℕ
 numbersFor r rest = commandFor r (readingFor r (stateFor r rest))
 
 -- a whole controller
-abbrev pub imageOf : Floppy → List ℕ
-imageOf f = numbersFor (f .regs) (f .held)
+abbrev pub floppyBytes : Floppy → List ℕ
+floppyBytes f = numbersFor (f .regs) (f .held)
 
 -- ---- Reading
 
 abbrev pub flagAt : ℕ → Bool
 flagAt b = not (eqb b 0)
 
-abbrev pub seekIf : Bool → Bool → Seek
-seekIf true done = Running
-seekIf false true = Done
-seekIf false false = Idle
+abbrev pub seekFrom : Bool → Bool → Seek
+seekFrom true done = Running
+seekFrom false true = Done
+seekFrom false false = Idle
 
 abbrev pub seekAt : ℕ → Seek
-seekAt b = seekIf (eqb b 1) (eqb b 2)
+seekAt b = seekFrom (eqb b 1) (eqb b 2)
 
 abbrev pub writeAt : List ℕ → Pending
 writeAt l = record {
@@ -101,9 +101,9 @@ driveAt l = record { cylinder = byteAt l 39; seek = seekAt (byteAt l 40); disk =
 
 unfoldable pub regsAt : List ℕ → Regs
 regsAt l = record {
-  command = bytesFor 9 l 0 [];
+  command = partFor 9 l 0 [];
   count = byteAt l 9;
-  reply = bytesFor 7 l 10 [];
+  reply = partFor 7 l 10 [];
   place = byteAt l 17;
   fill = byteAt l 18;
   from = numberAt 4 l 19;

@@ -5,16 +5,17 @@ use registers::Pending;
 use registers::Regs;
 use registers::Seek;
 ghost use mathlib.Core.Path.{_≡_};
-ghost use Prim.Native.Nat.{_+_, _*_, _≤_};
+ghost use Prim.Native.Nat.{_+_, _≤_};
 ghost use mathlib.Core.List.{[]};
 ghost use lib.ListN.{length};
 ghost use Rattle.fields.specs.Bytes.{numberAt};
-ghost use Rattle.layout.specs.Layout.{controllerLength, flagByte, seekByte, bytesFor, commandFor, readingFor, stateFor, numbersFor, flagAt, seekAt, writeAt, driveAt, regsAt, heldAt, formed};
+ghost use Rattle.layout.specs.Layout.{controllerLength, flagByte, seekByte, partFor, commandFor, readingFor, stateFor, numbersFor};
+ghost use Rattle.layout.specs.Layout.{flagAt, seekAt, writeAt, driveAt, regsAt, heldAt, formed};
 
 pub const LENGTH: usize = 1066;
 
-// Where the held bytes begin.
-pub const HELD: usize = 42;
+// How many bytes the numbers take; the held bytes begin behind them.
+pub const NUMBERS: usize = 42;
 
 fn flag_at(b: u8) -> bool
     ensures { λ r. ⌜ r ≡ flagAt b ⌝ }
@@ -50,31 +51,12 @@ fn seek_byte(s: Seek) -> u8
     }
 }
 
-// The number in two bytes from a place, and in four, the lowest first.
-fn word_at(c: &[u8], at: usize) -> u16
-    requires { ⌜ at + 2 ≤ length (now c) ⌝ }
-    ensures { λ r. ⌜ r ≡ numberAt 2 (now (c .entry)) at ⌝ }
-{
-    word(c[at], c[at + 1])
-}
-
+// The number in four bytes from a place, the lowest first.
 fn long_at(c: &[u8], at: usize) -> u32
     requires { ⌜ at + 4 ≤ length (now c) ⌝ }
     ensures { λ r. ⌜ r ≡ numberAt 4 (now (c .entry)) at ⌝ }
 {
-    long(c[at], c[at + 1], c[at + 2], c[at + 3])
-}
-
-fn word(a: u8, b: u8) -> u16
-    ensures { λ r. ⌜ r ≡ a + 256 * b ⌝ }
-{
-    a as u16 + 256 * (b as u16)
-}
-
-fn long(a: u8, b: u8, c: u8, d: u8) -> u32
-    ensures { λ r. ⌜ r ≡ a + 256 * (b + 256 * (c + 256 * d)) ⌝ }
-{
-    a as u32 + 256 * (b as u32 + 256 * (c as u32 + 256 * (d as u32)))
+    (fields::word(c, at) + 65536 * fields::word(c, at + 2)) as u32
 }
 
 // Whether a controller has these bytes, as far as one by one they can tell.
@@ -99,14 +81,14 @@ pub fn formed(c: &[u8]) -> bool
 // The parts of the registers that are in these bytes.
 fn command_at(c: &[u8]) -> [u8; 9]
     requires { ⌜ length (now c) ≡ controllerLength ⌝ }
-    ensures { λ r. ⌜ r ≡ bytesFor 9 (now (c .entry)) 0 [] ⌝ }
+    ensures { λ r. ⌜ r ≡ partFor 9 (now (c .entry)) 0 [] ⌝ }
 {
     [c[0], c[1], c[2], c[3], c[4], c[5], c[6], c[7], c[8]]
 }
 
 fn reply_at(c: &[u8]) -> [u8; 7]
     requires { ⌜ length (now c) ≡ controllerLength ⌝ }
-    ensures { λ r. ⌜ r ≡ bytesFor 7 (now (c .entry)) 10 [] ⌝ }
+    ensures { λ r. ⌜ r ≡ partFor 7 (now (c .entry)) 10 [] ⌝ }
 {
     [c[10], c[11], c[12], c[13], c[14], c[15], c[16]]
 }
@@ -125,7 +107,7 @@ fn write_at(c: &[u8]) -> Pending
         on: flag_at(c[31]),
         c1: c[32],
         id,
-        taken: word_at(c, 37),
+        taken: fields::word(c, 37) as u16,
     }
 }
 
@@ -159,7 +141,7 @@ pub fn decode(c: &[u8]) -> Regs
         until: long_at(c, 23),
         lost: c[27],
         motor: flag_at(c[28]),
-        index: word_at(c, 29),
+        index: fields::word(c, 29) as u16,
         write,
         drive,
     }

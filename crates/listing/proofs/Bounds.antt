@@ -7,10 +7,10 @@ use lib.ListN.{length, drop, length-append}
 use lib.Seq.{getD-drop}
 use Rattle.fields.specs.Refusals.{Result, refused, good, numberOf}
 use Rattle.fields.specs.Bytes.{byteAt, numberAt}
-use Rattle.fields.specs.Model.{Track, Disk, total, sectorCount}
-use Rattle.tracks.specs.Block.{rowAt, rowBy, rowPlace, rowOf, trackIn, trackOf, headOf}
+use Rattle.fields.specs.Model.{copies, Track, Disk, total, sectorCount}
+use Rattle.tracks.specs.Block.{rowAt, rowBy, rowPlace, rowOf, trackIn, trackOf, trackHead}
 use Rattle.image.specs.Dsk.{before}
-use Rattle.image.specs.Calls.{stepOf, leftOf}
+use Rattle.image.specs.Calls.{stepOf, tracksLeft}
 use Rattle.fields.specs.declared.refusal.Refusal.{Refusal}
 use Rattle.tracks.specs.declared.track.Kind.{Kind}
 use Rattle.tracks.specs.declared.track.Kind.the-variants.{Normal, Extended}
@@ -19,12 +19,12 @@ use Rattle.image.specs.declared.walk.Step.{Step}
 use Rattle.image.specs.declared.walk.Step.the-variants as step
 use Rattle.tracks.specs.declared.track.Row.{Row}
 use Rattle.image.specs.declared.walk.Totals.{Totals}
-use Rattle.fields.proofs.Sizes.{size-most}
+use Rattle.fields.proofs.Sizes.{size-most, copies-few}
 use Rattle.tracks.proofs.Tracks.{track-good, track-count}
 use Rattle.image.proofs.Steps.{Moved, Says, says, falls}
-use Rattle.listing.specs.Text.{diskWord, kindWord, copies, trackLine, sectorLines, trackLines, printedAs}
+use Rattle.listing.specs.Text.{diskWord, kindWord, trackLine, sectorLines, trackLines, printedAs}
 use Rattle.listing.specs.Lines.{rowLine, headLine, totalsLine, rowLines, blockLines}
-use Rattle.listing.proofs.Digits.{byte-digits, word-digits, all-digits, copies-few}
+use Rattle.listing.proofs.Digits.{byte-digits, word-digits, all-digits}
 use Rattle.listing.proofs.Lines.{id-length, row-length, head-length, totals-length, refusal-length}
 use Rattle.listing.proofs.Tracks.{block-lines}
 
@@ -100,11 +100,11 @@ module _ (b : List ℕ) (s : Small b) where
       let z : t .gap ≡ byteAt b 0x16 = ap (λ (y : Track). y .gap) (sym same) in
       let w : t .filler ≡ byteAt b 0x17 = ap (λ (y : Track). y .filler) (sym same) in
       let v : length (t .sectors) ≡ byteAt b 0x15 = track-count kind b t e in
-      let l : length (blockLines kind b (headOf t)) ≡ length (trackLine t ++ sectorLines (t .sectors)) = ap length (block-lines kind b t e (headOf t) refl) in
+      let l : length (blockLines kind b (trackHead t)) ≡ length (trackLine t ++ sectorLines (t .sectors)) = ap length (block-lines kind b t e (trackHead t) refl) in
       omega (
         arith,
-        length-append (headLine (headOf t)) (rowLines kind b 0 (length (t .sectors))),
-        head-length (headOf t),
+        length-append (headLine (trackHead t)) (rowLines kind b 0 (length (t .sectors))),
+        head-length (trackHead t),
         rows-few kind 0 (length (t .sectors)),
         byte-digits (t .cylinder) (omega (arith, s 0x10)),
         byte-digits (t .side) (omega (arith, s 0x11)),
@@ -132,19 +132,19 @@ module _ (b : List ℕ) (s : Small b) where
           length-append (sectorLines (t .sectors)) (trackLines d),
         )
 
-    step-few : (x : Step) → Says b w x → ((r : Walk) → Moved w r → Few (leftOf b r)) → Few (leftOf b w)
+    step-few : (x : Step) → Says b w x → ((r : Walk) → Moved w r → Few (tracksLeft b r)) → Few (tracksLeft b w)
     unfolding trackLines
     step-few step.End e f = subst Few (sym e) (omega arith)
     step-few (step.Refused why) e f = subst Few (sym e) tt
     step-few (step.Absent r) e f = subst Few (sym (e .1)) (f r (e .0))
-    step-few (step.Track h r) e f = subst Few (sym (e .left)) (one (e .track) (e .read) (leftOf b r) (f r (e .moved)))
+    step-few (step.Track h r) e f = subst Few (sym (e .left)) (one (e .track) (e .read) (tracksLeft b r) (f r (e .moved)))
 
   -- those of the tracks that a walk has to hand out, step by step
-  left-few : (n : ℕ) (w : Walk) → w .entries - w .entry ≤ n → Few (leftOf b w)
+  left-few : (n : ℕ) (w : Walk) → w .entries - w .entry ≤ n → Few (tracksLeft b w)
   left-few zero w h = step-few w (stepOf b w) (says b w) (λ r m. absurd (omega (arith, m .more)))
   left-few (suc n) w h = step-few w (stepOf b w) (says b w) (λ r m. left-few n r (omega (arith, falls w r m)))
 
-  pub walk-few : (w : Walk) → Few (leftOf b w)
+  pub walk-few : (w : Walk) → Few (tracksLeft b w)
   walk-few w = left-few (w .entries - w .entry) w (omega arith)
 
 -- the disk's line, and a refusal's
@@ -152,9 +152,9 @@ kind-few : (k : Kind) → length (diskWord ++ kindWord k) ≤ 13
 kind-few Normal = omega arith
 kind-few Extended = omega arith
 
-pub totals-few : (n : Totals) → length (totalsLine n) ≤ 98
-totals-few n =
-    omega (arith, totals-length n, kind-few (n .kind), all-digits 20 (n .tracks) [], all-digits 20 (n .sectors) [], all-digits 20 (n .bytes) [])
+pub totals-few : (kind : Kind) (n : Totals) → length (totalsLine kind n) ≤ 98
+totals-few kind n =
+    omega (arith, totals-length kind n, kind-few kind, all-digits 20 (n .tracks) [], all-digits 20 (n .sectors) [], all-digits 20 (n .bytes) [])
 
 pub refusal-few : (why : Refusal) → length (printedAs (refused why)) ≤ 29
 refusal-few why = omega (arith, refusal-length why, all-digits 20 (numberOf why) [])

@@ -1,16 +1,15 @@
 -- Decimal digits: writing them from the last to the first, and how many a number has.
 use mathlib.Core.Path.{_≡_, refl, sym, ap, _∙_}
 use Prim.Native.Nat.{ℕ, zero, suc, _+_, _-_, _*_, _/_, _%_, _^_, _≤_, _<_}
-use native.Mathlib.Nat.{pow-succ', div-le-self}
+use native.Mathlib.Nat.{pow-succ'}
 use native.Mathlib.Omega.{arith}
 use mathlib.Core.Bool.{Bool, true, false, cond}
 use mathlib.Core.List.{List, [], _∷_}
 use lib.ListN.{length, drop, set, length-set, drop-of-length-le}
-use lib.Dec.{eqb, ltb, lit≤}
-use borrow.Author.Tests.{lt-ltb, le-ltb, ltb-false, eq-eqb, ne-eqb}
+use lib.Dec.{ltb, lit≤}
+use borrow.Author.Tests.{lt-ltb, le-ltb, ltb-false}
 use Rattle.buffer.proofs.Overs.{over-set, over-drop}
-use Rattle.fields.specs.Model.{sizeOf}
-use Rattle.listing.specs.Text.{digitsFor, decimal, copies}
+use Rattle.listing.specs.Text.{digitsFor, decimal}
 
 -- ---- the loop that writes them
 
@@ -111,24 +110,3 @@ all-digits (suc most) n rest = by (ltb n 10) (all-digits most (n / 10) ((48 + n 
         → length (cond t ((48 + n) ∷ rest) (digitsFor most (n / 10) ((48 + n % 10) ∷ rest))) ≤ suc most + length rest
     by true h = omega arith
     by false h = omega arith
-
--- ---- copies
-
-module _ (stored n size : ℕ) (e : size ≡ sizeOf n) where
-  pub copies-whole : stored % size ≡ 0 → stored / size ≡ copies stored n
-  unfolding copies
-  copies-whole h = let q : stored % sizeOf n ≡ 0 = ap (λ (k : ℕ). stored % k) (sym e) ∙ h in simp (eq-eqb _ _ q) (ap (λ (k : ℕ). stored / k) e)
-
-  pub copies-none : (stored % size ≡ 0 → ⊥) → 0 ≡ copies stored n
-  unfolding copies
-  copies-none h =
-      let q : stored % sizeOf n ≡ 0 → ⊥ = λ p. h (ap (λ (k : ℕ). stored % k) e ∙ p) in
-      simp (ne-eqb _ _ q)
-
-pub copies-few : (stored n : ℕ) → copies stored n ≤ stored
-unfolding copies
-copies-few stored n = by (eqb (stored % sizeOf n) 0)
-  where
-    by : (t : Bool) → cond t (stored / sizeOf n) 0 ≤ stored
-    by true = div-le-self stored (sizeOf n)
-    by false = omega arith

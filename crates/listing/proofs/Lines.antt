@@ -7,13 +7,14 @@ use lib.ListN.{length, length-append}
 use Rattle.buffer.specs.Over.{over}
 use Rattle.buffer.proofs.Overs.{over-over, over-nil, over-length}
 use Rattle.fields.specs.Refusals.{refused, numberOf}
+use Rattle.fields.specs.Model.{copies}
 use Rattle.fields.specs.declared.refusal.Refusal.{Refusal}
 use Rattle.fields.specs.declared.id.SectorId.{SectorId}
 use Rattle.tracks.specs.declared.track.Kind.{Kind}
 use Rattle.tracks.specs.declared.track.Head.{Head}
 use Rattle.tracks.specs.declared.track.Row.{Row}
 use Rattle.image.specs.declared.walk.Totals.{Totals}
-use Rattle.listing.specs.Text.{diskWord, tracksWord, sectorsWord, bytesWord, trackWord, gapWord, fillerWord, sectorWord, space, end, refusedWord, kindWord, decimal, copies, printedAs, diskText, idText, sectorText, trackText}
+use Rattle.listing.specs.Text.{diskWord, tracksWord, sectorsWord, bytesWord, trackWord, gapWord, fillerWord, sectorWord, space, end, refusedWord, kindWord, decimal, printedAs, diskFields, idText, sectorFields, trackFields}
 use Rattle.listing.specs.Lines.{Laid, rowLine, headLine, totalsLine}
 
 -- ---- one text behind another
@@ -87,18 +88,18 @@ id-length i = simp length-append (omega arith)
 pub row-length : (row : Row) → length (rowLine row)
     ≡ length (idText (row .id)) + 5 + length (decimal (row .st1 .bits)) + length (decimal (row .st2 .bits)) + length (decimal (row .stored))
     + length (decimal (copies (row .stored) (row .id .n)))
-unfolding sectorText
+unfolding sectorFields
 row-length row = simp length-append (omega arith)
 
 pub head-length : (h : Head) → length (headLine h)
     ≡ 30 + length (decimal (h .cylinder)) + length (decimal (h .side)) + length (decimal (h .sectors)) + length (decimal (h .gap)) + length (decimal (h .filler))
-unfolding trackText
+unfolding trackFields
 head-length h = simp length-append (omega arith)
 
-pub totals-length : (n : Totals) → length (totalsLine n)
-    ≡ 25 + length (diskWord ++ kindWord (n .kind)) + length (decimal (n .tracks)) + length (decimal (n .sectors)) + length (decimal (n .bytes))
-unfolding diskText
-totals-length n = simp length-append (omega arith)
+pub totals-length : (kind : Kind) (n : Totals) → length (totalsLine kind n)
+    ≡ 25 + length (diskWord ++ kindWord kind) + length (decimal (n .tracks)) + length (decimal (n .sectors)) + length (decimal (n .bytes))
+unfolding diskFields
+totals-length kind n = simp length-append (omega arith)
 
 pub refusal-length : (why : Refusal) → length (printedAs (refused why)) ≡ 9 + length (decimal (numberOf why))
 refusal-length why = simp length-append (omega arith)
@@ -122,12 +123,12 @@ module _ {d d₁ d₂ : List ℕ} {at a₁ a₂ : ℕ} where
         (λ m. both (space ++ decimal (i .r)) (space ++ decimal (i .n)) m r (λ m. s)))
 
     module _ {d₅ : List ℕ} {a₅ : ℕ} where
-      pub totals-laid : (n : Totals) → at + length (totalsLine n) ≤ length d → Laid d at (diskWord ++ kindWord (n .kind)) d₁ a₁
+      pub totals-laid : (kind : Kind) (n : Totals) → at + length (totalsLine kind n) ≤ length d → Laid d at (diskWord ++ kindWord kind) d₁ a₁
           → Laid d₁ a₁ (tracksWord ++ decimal (n .tracks)) d₂ a₂ → Laid d₂ a₂ (sectorsWord ++ decimal (n .sectors)) d₃ a₃
-          → Laid d₃ a₃ (bytesWord ++ decimal (n .bytes)) d₄ a₄ → Laid d₄ a₄ end d₅ a₅ → Laid d at (totalsLine n) d₅ a₅
-      unfolding diskText
-      totals-laid n l p q r s t =
-          both (diskWord ++ kindWord (n .kind)) _ l p
+          → Laid d₃ a₃ (bytesWord ++ decimal (n .bytes)) d₄ a₄ → Laid d₄ a₄ end d₅ a₅ → Laid d at (totalsLine kind n) d₅ a₅
+      unfolding diskFields
+      totals-laid kind n l p q r s t =
+          both (diskWord ++ kindWord kind) _ l p
           (λ m. both (tracksWord ++ decimal (n .tracks)) _ m q
           (λ m. both (sectorsWord ++ decimal (n .sectors)) _ m r
           (λ m. both (bytesWord ++ decimal (n .bytes)) end m s (λ m. t))))
@@ -137,7 +138,7 @@ module _ {d d₁ d₂ : List ℕ} {at a₁ a₂ : ℕ} where
             → Laid d₁ a₁ (space ++ decimal (h .side)) d₂ a₂ → Laid d₂ a₂ (sectorsWord ++ decimal (h .sectors)) d₃ a₃
             → Laid d₃ a₃ (gapWord ++ decimal (h .gap)) d₄ a₄ → Laid d₄ a₄ (fillerWord ++ decimal (h .filler)) d₅ a₅ → Laid d₅ a₅ end d₆ a₆
             → Laid d at (headLine h) d₆ a₆
-        unfolding trackText
+        unfolding trackFields
         head-laid h l p q r s t u =
             both (trackWord ++ decimal (h .cylinder)) _ l p
             (λ m. both (space ++ decimal (h .side)) _ m q
@@ -149,7 +150,7 @@ module _ {d d₁ d₂ : List ℕ} {at a₁ a₂ : ℕ} where
             → Laid d₁ a₁ (space ++ decimal (row .st1 .bits)) d₂ a₂ → Laid d₂ a₂ (space ++ decimal (row .st2 .bits)) d₃ a₃
             → Laid d₃ a₃ (space ++ decimal (row .stored)) d₄ a₄ → Laid d₄ a₄ (space ++ decimal n) d₅ a₅ → Laid d₅ a₅ end d₆ a₆
             → Laid d at (rowLine row) d₆ a₆
-        unfolding sectorText
+        unfolding sectorFields
         row-laid row n e l p q r s t u =
             let t′ : Laid d₄ a₄ (space ++ decimal (copies (row .stored) (row .id .n))) d₅ a₅ =
             renamed (space ++ decimal n) (space ++ decimal (copies (row .stored) (row .id .n))) (ap (λ (k : ℕ). space ++ decimal k) e) t in

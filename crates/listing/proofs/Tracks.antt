@@ -7,9 +7,10 @@ use lib.ListN.{length, take, drop}
 use Rattle.fields.specs.Refusals.{Result, good}
 use Rattle.fields.specs.Bytes.{byteAt}
 use Rattle.fields.specs.Model.{Track, Disk}
-use Rattle.tracks.specs.Block.{rowOf, sectorOf, sectorsFrom, storedFrom, trackIn, trackOf, headOf}
-use Rattle.image.specs.Calls.{leftOf, tracksIn, toCome}
+use Rattle.tracks.specs.Block.{rowOf, sectorOf, sectorsFrom, storedFrom, trackIn, trackOf, trackHead}
+use Rattle.image.specs.Calls.{tracksLeft, tracksIn, toCome}
 use Rattle.fields.specs.declared.refusal.Refusal.{Refusal}
+use Rattle.fields.proofs.Tests.{never}
 use Rattle.tracks.specs.declared.track.Kind.{Kind}
 use Rattle.image.specs.declared.walk.Walk.{Walk}
 use Rattle.tracks.specs.declared.track.Head.{Head}
@@ -17,7 +18,7 @@ use Rattle.tracks.specs.declared.track.Row.{Row}
 use Rattle.image.specs.declared.walk.Step.the-variants as step
 use Rattle.tracks.proofs.Tracks.{down, by-entries, track-good, track-count}
 use Rattle.image.proofs.Steps.{Says, come-split}
-use Rattle.listing.specs.Text.{sectorLine, trackLine, sectorLines, trackLines, sectorText}
+use Rattle.listing.specs.Text.{sectorLine, trackLine, sectorLines, trackLines, sectorFields}
 use Rattle.listing.specs.Lines.{Laid, rowLine, headLine, rowLines, blockLines, Listable}
 use Rattle.listing.proofs.Lines.{Left, left-start, left-done, left-room, left-again}
 
@@ -25,9 +26,9 @@ use Rattle.listing.proofs.Lines.{Left, left-start, left-done, left-room
 
 -- a sector whose data are whole has the line of its entry
 row-line : (row : Row) (b : List ℕ) → length (take (row .stored) b) ≡ row .stored → rowLine row ≡ sectorLine (sectorOf row b)
-row-line row b e = ap (sectorText (row .id) (row .st1 .bits) (row .st2 .bits)) (sym e)
+row-line row b e = ap (sectorFields (row .id) (row .st1 .bits) (row .st2 .bits)) (sym e)
 
-head-line : (t : Track) → headLine (headOf t) ≡ trackLine t
+head-line : (t : Track) → headLine (trackHead t) ≡ trackLine t
 head-line t = refl
 
 module _ (kind : Kind) (b : List ℕ) where
@@ -44,7 +45,7 @@ module _ (kind : Kind) (b : List ℕ) where
       (λ k place left ss e f i. row-line (rowOf kind b k) (drop place b) e i ++ f i)
 
   -- what is laid of a block is its track's line with its sectors under it
-  pub block-lines : (t : Track) → trackOf kind b ≡ good t → (h : Head) → h ≡ headOf t → blockLines kind b h ≡ trackLine t ++ sectorLines (t .sectors)
+  pub block-lines : (t : Track) → trackOf kind b ≡ good t → (h : Head) → h ≡ trackHead t → blockLines kind b h ≡ trackLine t ++ sectorLines (t .sectors)
   unfolding trackIn
   block-lines t e h f =
       let same : trackIn kind b ≡ t = track-good kind b t e .0 in
@@ -83,7 +84,7 @@ module _ (kind : Kind) (b : List ℕ) where
 -- what it knows at its head
 pub record Walking (img d₀ : List ℕ) (place : ℕ) (start : Walk) (kind : Kind) (d : List ℕ) (w : Walk) (at : ℕ) : Type 0 where
   pub same-kind : w .kind ≡ kind
-  pub whole : leftOf img w ≡ good (toCome img w)
+  pub whole : tracksLeft img w ≡ good (toCome img w)
   pub left : Left d₀ place (trackLines (toCome img start)) d at (trackLines (toCome img w))
 
 module _ (img d₀ : List ℕ) (place : ℕ) (start : Walk) (kind : Kind) where
@@ -93,7 +94,7 @@ module _ (img d₀ : List ℕ) (place : ℕ) (start : Walk) (kind : Kind) where
   module _ (d : List ℕ) (w : Walk) (at : ℕ) (l : Walking img d₀ place start kind d w at) where
     -- an image that was read as good is not refused now
     pub walking-never : (why : Refusal) → Says img w (step.Refused why) → ⊥
-    walking-never why e = let x : leftOf img w ≡ good (toCome img w) = l .whole in let z : _≡_ {A = ℕ} 0 1 = cc in omega arith
+    walking-never why e = let x : tracksLeft img w ≡ good (toCome img w) = l .whole in never (cc)
 
     pub walking-end : Says img w step.End → Laid d₀ place (trackLines (toCome img start)) d at
     unfolding trackLines
@@ -105,7 +106,7 @@ module _ (img d₀ : List ℕ) (place : ℕ) (start : Walk) (kind : Kind) where
         record { same-kind = e .0 .kind ∙ l .same-kind; whole = sym (e .1) ∙ l .whole ∙ ap good (sym q); left = rw q (l .left) }
 
     module _ (room : place + length (trackLines (toCome img start)) ≤ length d₀) (h : Head) (r : Walk) (e : Says img w (step.Track h r)) (p : List ℕ) (ep : p ≡ drop (w .at) img) where
-      rest : (leftOf img r ≡ good (toCome img r)) × (toCome img w ≡ e .track ∷ toCome img r)
+      rest : (tracksLeft img r ≡ good (toCome img r)) × (toCome img w ≡ e .track ∷ toCome img r)
       rest = come-split img w r (e .track) (e .left) (l .whole)
 
       -- the track's lines come first

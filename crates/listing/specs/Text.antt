@@ -3,9 +3,10 @@ use Prim.Native.Nat.{ℕ, zero, suc, _+_, _/_, _%_}
 use mathlib.Core.Bool.{cond}
 use mathlib.Core.List.{List, [], _∷_, _++_}
 use lib.ListN.{length}
-use lib.Dec.{eqb, ltb, leb}
+use lib.Dec.{ltb, leb}
 use Rattle.fields.specs.Refusals.{Result, refused, good, need, after, numberOf}
-use Rattle.fields.specs.Model.{sizeOf, Sector, Track, Disk, sectorCount, byteCount}
+use Rattle.fields.specs.Capacities.{mostTracks, mostSectors}
+use Rattle.fields.specs.Model.{copies, Sector, Track, Disk, sectorCount, byteCount}
 use Rattle.image.specs.Dsk.{Dsk, dskOf}
 use Rattle.fields.specs.declared.id.SectorId.{SectorId}
 use Rattle.tracks.specs.declared.track.Kind.{Kind}
@@ -68,16 +69,12 @@ decimal n = digitsFor 20 n []
 
 -- ---- Lines
 
--- stored length over size by n where that leaves no remainder, else 0
-unfoldable pub copies : ℕ → ℕ → ℕ
-copies stored n = cond (eqb (stored % sizeOf n) 0) (stored / sizeOf n) 0
-
 -- each sector: c, h, r, n, st1, st2, stored length, copies
 unfoldable pub idText : SectorId → List ℕ
 idText i = sectorWord ++ (decimal (i .c) ++ (space ++ (decimal (i .h) ++ (space ++ (decimal (i .r) ++ (space ++ decimal (i .n)))))))
 
-unfoldable pub sectorText : SectorId → ℕ → ℕ → ℕ → List ℕ
-sectorText id st1 st2 stored =
+unfoldable pub sectorFields : SectorId → ℕ → ℕ → ℕ → List ℕ
+sectorFields id st1 st2 stored =
     idText id
     ++ (space ++ (decimal st1
     ++ (space ++ (decimal st2
@@ -85,11 +82,11 @@ sectorText id st1 st2 stored =
     ++ (space ++ (decimal (copies stored (id .n)) ++ end))))))))
 
 abbrev pub sectorLine : Sector → List ℕ
-sectorLine s = sectorText (s .id) (s .st1 .bits) (s .st2 .bits) (length (s .content))
+sectorLine s = sectorFields (s .id) (s .st1 .bits) (s .st2 .bits) (length (s .content))
 
 -- each track: cylinder, side, sectors, gap, filler
-unfoldable pub trackText : ℕ → ℕ → ℕ → ℕ → ℕ → List ℕ
-trackText cylinder side sectors gap filler =
+unfoldable pub trackFields : ℕ → ℕ → ℕ → ℕ → ℕ → List ℕ
+trackFields cylinder side sectors gap filler =
     trackWord ++ (decimal cylinder
     ++ (space ++ (decimal side
     ++ (sectorsWord ++ (decimal sectors
@@ -97,18 +94,18 @@ trackText cylinder side sectors gap filler =
     ++ (fillerWord ++ (decimal filler ++ end)))))))))
 
 abbrev pub trackLine : Track → List ℕ
-trackLine t = trackText (t .cylinder) (t .side) (length (t .sectors)) (t .gap) (t .filler)
+trackLine t = trackFields (t .cylinder) (t .side) (length (t .sectors)) (t .gap) (t .filler)
 
 -- first line: kind, tracks loaded, sectors, sum of stored lengths
-unfoldable pub diskText : Kind → ℕ → ℕ → ℕ → List ℕ
-diskText kind tracks sectors bytes =
+unfoldable pub diskFields : Kind → ℕ → ℕ → ℕ → List ℕ
+diskFields kind tracks sectors bytes =
     diskWord ++ (kindWord kind
     ++ (tracksWord ++ (decimal tracks
     ++ (sectorsWord ++ (decimal sectors
     ++ (bytesWord ++ (decimal bytes ++ end)))))))
 
 abbrev pub diskLine : Dsk → List ℕ
-diskLine d = diskText (d .kind) (length (d .disk)) (sectorCount (d .disk)) (byteCount (d .disk))
+diskLine d = diskFields (d .kind) (length (d .disk)) (sectorCount (d .disk)) (byteCount (d .disk))
 
 -- the sectors, each on a line; the tracks, each with its sectors under it
 unfoldable pub sectorLines : List Sector → List ℕ
@@ -124,12 +121,20 @@ trackLines (t ∷ ts) = trackLine t ++ (sectorLines (t .sectors) ++ trackLines t
 abbrev pub listingText : Dsk → List ℕ
 listingText d = diskLine d ++ trackLines (d .disk)
 
+-- no longer input is listed, and no longer text is printed
+abbrev pub mostInput : ℕ
+mostInput = 65536
+
+abbrev pub mostText : ℕ
+mostText = 98304
+
 -- 10 is judged first, then the image, then 6 and 7; with no store 8 never comes
 unfoldable pub listingOf : List ℕ → Result (List ℕ)
 listingOf b =
-    need (leb (length b) 65536) LongInput
+    need (leb (length b) mostInput) LongInput
     (after (dskOf b) (λ d.
-    need (leb (length (d .disk)) 204) TooManyTracks (need (leb (sectorCount (d .disk)) 2048) TooManySectors (good (listingText d)))))
+    need (leb (length (d .disk)) mostTracks) TooManyTracks
+    (need (leb (sectorCount (d .disk)) mostSectors) TooManySectors (good (listingText d)))))
 
 -- a refusal prints `refused N` alone
 abbrev pub printedAs : Result (List ℕ) → List ℕ

@@ -12,7 +12,7 @@ ghost use Prim.Native.Nat.{_+_, _≤_};
 ghost use mathlib.Core.List.{_++_};
 ghost use lib.ListN.{length, drop};
 ghost use Rattle.fields.specs.Refusals.{refused};
-ghost use Rattle.listing.specs.Text.{diskWord, kindWord, decimal, copies, trackLines, printedAs, idText};
+ghost use Rattle.listing.specs.Text.{diskWord, kindWord, decimal, trackLines, printedAs, idText};
 ghost use Rattle.image.specs.Calls.{toCome};
 ghost use Rattle.listing.specs.Lines.{Laid, rowLine, headLine, totalsLine, rowLines, blockLines, Listable};
 
@@ -70,17 +70,6 @@ fn put_byte(out: &mut [u8], at: usize, word: &[u8], n: u8) -> usize
     put_field(out, at, word, n as usize)
 }
 
-// How often the size by n goes into a stored length, 0 where that leaves a remainder.
-fn copies_of(stored: usize, id: SectorId) -> usize
-    ensures { λ r. ⌜ r ≡ copies stored (id .n) ⌝ }
-{
-    let size = id.len();
-    if stored % size == 0 {
-        return stored / size;
-    }
-    0
-}
-
 // Lays the beginning of a sector's line.
 fn put_id(out: &mut [u8], at: usize, id: SectorId) -> usize
     requires { ⌜ at + length (idText id) ≤ length (now out) ⌝ }
@@ -105,7 +94,7 @@ fn put_row(out: &mut [u8], at: usize, row: Row) -> usize
     let second = put_byte(out, first, b" ", st1.bits);
     let third = put_byte(out, second, b" ", st2.bits);
     let fourth = put_field(out, third, b" ", stored);
-    let last = put_field(out, fourth, b" ", copies_of(stored, id));
+    let last = put_field(out, fourth, b" ", id.copies(stored));
     put_word(out, last, b"\n")
 }
 
@@ -178,11 +167,10 @@ fn put_kind(out: &mut [u8], at: usize, kind: Kind) -> usize
 }
 
 // Lays the disk's line.
-pub fn put_disk(out: &mut [u8], totals: Totals) -> usize
-    requires { ⌜ length (totalsLine totals) ≤ length (now out) ⌝ }
-    ensures { λ r. ⌜ Laid (now (out .entry)) 0 (totalsLine totals) (now (out .exit)) r ⌝ }
+pub fn put_disk(out: &mut [u8], kind: Kind, totals: Totals) -> usize
+    requires { ⌜ length (totalsLine kind totals) ≤ length (now out) ⌝ }
+    ensures { λ r. ⌜ Laid (now (out .entry)) 0 (totalsLine kind totals) (now (out .exit)) r ⌝ }
 {
-    let kind = totals.kind;
     let tracks = put_kind(out, 0, kind);
     let sectors = put_field(out, tracks, b" tracks ", totals.tracks);
     let bytes = put_field(out, sectors, b" sectors ", totals.sectors);

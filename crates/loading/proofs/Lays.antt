@@ -11,15 +11,18 @@ use Rattle.buffer.proofs.Overs.{over-over, over-nil, over-length}
 use Rattle.fields.specs.Refusals.{good}
 use Rattle.fields.specs.Bytes.{byteAt}
 use Rattle.fields.specs.Model.{sizeOf, Sector, Track, Disk, total, trackBytes, sectorCount, byteCount}
-use Rattle.tracks.specs.Block.{rowOf, sectorOf, sectorsFrom, storedFrom, trackIn, trackOf, headOf}
+use Rattle.fields.specs.declared.id.SectorId.{SectorId}
+use Rattle.tracks.specs.Block.{idAt, rowOf, sectorOf, sectorsFrom, storedFrom, trackIn, trackOf, trackHead}
 use Rattle.tracks.specs.declared.track.Kind.{Kind}
 use Rattle.tracks.specs.declared.track.Head.{Head}
 use Rattle.tracks.specs.declared.track.Row.{Row}
 use Rattle.tracks.proofs.Tracks.{down, by-entries, contents-whole, track-good, track-count}
+use Rattle.tracks.proofs.Numbering.{ids-length}
 use Rattle.store.proofs.Rounds.{rows-length, rows-before, contents-length}
-use Rattle.store.specs.Store.{rowFor, rowsFor, tracksFor, contents, dataOf}
-use Rattle.store.specs.Fresh.{blanksFrom, formatted, freshFrom}
-use Rattle.loading.specs.Laying.{headBytes, rowBytes, listFrom, trackFor, formattedBy}
+use Rattle.store.specs.Store.{tracksFor, contents, dataOf}
+use Rattle.tracks.specs.Rows.{rowFor, headFor, sectorRow, rowsFor, idsAt, idsFrom}
+use Rattle.store.specs.Fresh.{blanks, formatted, freshTrack, freshFrom}
+use Rattle.loading.specs.Laying.{listFrom, blockRows, blockData, trackFor, formattedBy, Whole}
 
 -- ---- one part behind another
 
@@ -49,21 +52,21 @@ rows-append ss rest = sym (rows-before ss [] rest)
 pub tracks-append : (t : Track) (ts : Disk) → tracksFor (t ∷ ts) [] ≡ trackFor t ++ tracksFor ts []
 unfolding tracksFor
 tracks-append t ts =
-    ap (λ (l : List ℕ). t .cylinder ∷ t .side ∷ t .size ∷ t .gap ∷ t .filler ∷ length (t .sectors) ∷ l) (rows-append (t .sectors) (tracksFor ts []))
+    ap (headFor (trackHead t)) (rows-append (t .sectors) (tracksFor ts []))
 
 pub track-length : (t : Track) → length (trackFor t) ≡ 6 + 8 * length (t .sectors)
 unfolding tracksFor
 track-length t = omega (arith, rows-length (t .sectors) [])
 
 -- a sector whose data are whole has the row of its entry
-row-is : (row : Row) (b rest : List ℕ) → length (take (row .stored) b) ≡ row .stored → rowFor (sectorOf row b) rest ≡ rowBytes row ++ rest
+row-is : (row : Row) (b rest : List ℕ) → length (take (row .stored) b) ≡ row .stored → rowFor (sectorRow (sectorOf row b)) rest ≡ rowFor row rest
 row-is row b rest e = cc
 
 -- ---- a track block
 
-pub list-step : (kind : Kind) (b : List ℕ) (k left : ℕ) → 0 < left → listFrom kind b k left ≡ rowBytes (rowOf kind b k) ++ listFrom kind b (k + 1) (left - 1)
+pub list-step : (kind : Kind) (b : List ℕ) (k left : ℕ) → 0 < left → listFrom kind b k left ≡ rowFor (rowOf kind b k) (listFrom kind b (k + 1) (left - 1))
 unfolding listFrom
-list-step kind b k = down (λ left l. listFrom kind b k left ≡ rowBytes (rowOf kind b k) ++ listFrom kind b (k + 1) l) (λ left. refl)
+list-step kind b k = down (λ left l. listFrom kind b k left ≡ rowFor (rowOf kind b k) (listFrom kind b (k + 1) l)) (λ left. refl)
 
 module _ (kind : Kind) (b : List ℕ) where
   -- the rows and the bytes of the sectors that a block holds
@@ -72,7 +75,7 @@ module _ (kind : Kind) (b : List ℕ) where
   unfolding listFrom rowsFor
   list-rows =
       by-entries kind b (λ k left ss. listFrom kind b k left ≡ rowsFor ss []) (λ k. refl)
-      (λ k place left ss e f. ap (λ (l : List ℕ). rowBytes (rowOf kind b k) ++ l) f ∙ sym (row-is (rowOf kind b k) (drop place b) (rowsFor ss []) e))
+      (λ k place left ss e f. ap (rowFor (rowOf kind b k)) f ∙ sym (row-is (rowOf kind b k) (drop place b) (rowsFor ss []) e))
 
   contents-are : (k place left : ℕ) → take (storedFrom kind b k left) (drop place b) ≡ contents (sectorsFrom kind b k place left)
   unfolding sectorsFrom storedFrom contents
@@ -91,15 +94,15 @@ module _ (kind : Kind) (b : List ℕ) where
     track-stored = ap trackBytes (sym (track-good kind b t e .0)) ∙ contents-whole kind b 0 0x100 (byteAt b 0x15) (track-good kind b t e .1)
 
     -- what is laid of a block is its track
-    pub track-laid : headBytes (headOf t) ++ listFrom kind b 0 (length (t .sectors)) ≡ trackFor t
+    pub track-laid : blockRows kind b (trackHead t) ≡ trackFor t
     unfolding tracksFor trackIn
     track-laid =
         let l : listFrom kind b 0 (byteAt b 0x15) ≡ rowsFor (trackIn kind b .sectors) [] = list-rows 0 0x100 (byteAt b 0x15) (track-good kind b t e .1) in
         let m : listFrom kind b 0 (length (t .sectors)) ≡ rowsFor (t .sectors) [] =
         ap (listFrom kind b 0) (track-count kind b t e) ∙ l ∙ ap (λ (x : Track). rowsFor (x .sectors) []) (track-good kind b t e .0) in
-        ap (λ (l : List ℕ). headBytes (headOf t) ++ l) m
+        ap (headFor (trackHead t)) m
 
-    pub bytes-laid : take (trackBytes t) (drop 0x100 b) ≡ contents (t .sectors)
+    pub bytes-laid : blockData b (trackHead t) ≡ contents (t .sectors)
     unfolding trackIn
     bytes-laid =
         ap (λ (n : ℕ). take n (drop 0x100 b)) track-stored
@@ -140,7 +143,8 @@ module _ (kind : Kind) (b : List ℕ) (count : ℕ) where
   pub list-first : listFrom kind b 0 (count - 0) ≡ listFrom kind b 0 count
   list-first = ap (listFrom kind b 0) (omega arith)
 
-  pub list-rest : (k : ℕ) (row : Row) → k < count → row ≡ rowOf kind b k → listFrom kind b k (count - k) ≡ rowBytes row ++ listFrom kind b (k + 1) (count - (k + 1))
+  pub list-rest : (k : ℕ) (row : Row) → k < count → row ≡ rowOf kind b k
+      → listFrom kind b k (count - k) ≡ rowFor row (listFrom kind b (k + 1) (count - (k + 1)))
   list-rest k row h e =
       let p : 0 < count - k = omega arith in
       let q : count - k - 1 ≡ count - (k + 1) = omega arith in
@@ -152,66 +156,79 @@ module _ (kind : Kind) (b : List ℕ) (count : ℕ) where
 
 -- ---- formatted tracks
 
-module _ (c h n f : ℕ) where
-  pub blanks-length : (r left : ℕ) → length (blanksFrom c h n f r left) ≡ left
-  unfolding blanksFrom
-  blanks-length r zero = refl
-  blanks-length r (suc left) = ap suc (blanks-length (r + 1) left)
+-- the row of a formatted sector
+abbrev pub blankRow : SectorId → ℕ → Row
+blankRow id size = record { id = id; st1 = record { bits = 0 }; st2 = record { bits = 0 }; stored = size }
 
-  -- the rows of formatted sectors, the first of them apart
-  pub blanks-step : (r left : ℕ) → 0 < left
-      → rowsFor (blanksFrom c h n f r left) []
-      ≡ rowBytes (record { id = record { c = c; h = h; r = r; n = n }; st1 = record { bits = 0 }; st2 = record { bits = 0 }; stored = sizeOf n })
-      ++ rowsFor (blanksFrom c h n f (r + 1) (left - 1)) []
-  unfolding blanksFrom rowsFor
-  blanks-step r =
-      down (λ left l. rowsFor (blanksFrom c h n f r left) []
-      ≡ rowBytes (record { id = record { c = c; h = h; r = r; n = n }; st1 = record { bits = 0 }; st2 = record { bits = 0 }; stored = sizeOf n })
-      ++ rowsFor (blanksFrom c h n f (r + 1) l) [])
-      (λ left. let e : length (replicate (sizeOf n) f) ≡ sizeOf n = length-replicate (sizeOf n) f in cc)
-
-  -- what is left of them
-  module _ (count : ℕ) where
-    pub blanks-first : rowsFor (blanksFrom c h n f (0 + 1) (count - 0)) [] ≡ rowsFor (blanksFrom c h n f 1 count) []
-    blanks-first = ap (λ (k : ℕ). rowsFor (blanksFrom c h n f 1 k) []) (omega arith)
-
-    pub blanks-rest : (k size : ℕ) → k < count → size ≡ sizeOf n
-        → rowsFor (blanksFrom c h n f (k + 1) (count - k)) []
-        ≡ rowBytes (record { id = record { c = c; h = h; r = k + 1; n = n }; st1 = record { bits = 0 }; st2 = record { bits = 0 }; stored = size })
-        ++ rowsFor (blanksFrom c h n f (k + 1 + 1) (count - (k + 1))) []
-    blanks-rest k size l e =
-        let p : 0 < count - k = omega arith in
-        let q : count - k - 1 ≡ count - (k + 1) = omega arith in
-        rw (e, ← q) (blanks-step (k + 1) (count - k) p)
-
-    pub blanks-none : (k : ℕ) → count ≤ k → rowsFor (blanksFrom c h n f (k + 1) (count - k)) [] ≡ []
-    unfolding blanksFrom rowsFor
-    blanks-none k l = let e : count - k ≡ 0 = omega arith in rw e
+module _ (n f : ℕ) where
+  pub blanks-length : (ids : List SectorId) → length (blanks n f ids) ≡ length ids
+  unfolding blanks
+  blanks-length [] = refl
+  blanks-length (id ∷ ids) = ap suc (blanks-length ids)
 
   -- their bytes are filler
-  pub blanks-bytes : (r left : ℕ) → contents (blanksFrom c h n f r left) ≡ replicate (left * sizeOf n) f
-  unfolding blanksFrom contents
-  blanks-bytes r zero = let e : 0 * sizeOf n ≡ 0 = omega arith in rw e
-  blanks-bytes r (suc left) =
-      let e : sizeOf n + left * sizeOf n ≡ suc left * sizeOf n = omega (arith, suc-mul left (sizeOf n)) in
-      ap (λ (l : List ℕ). replicate (sizeOf n) f ++ l) (blanks-bytes (r + 1) left)
-      ∙ replicate-append-replicate (sizeOf n) (left * sizeOf n) f
+  pub blanks-bytes : (ids : List SectorId) → contents (blanks n f ids) ≡ replicate (length ids * sizeOf n) f
+  unfolding blanks contents
+  blanks-bytes [] = let e : 0 * sizeOf n ≡ 0 = omega arith in rw e
+  blanks-bytes (id ∷ ids) =
+      let e : sizeOf n + length ids * sizeOf n ≡ suc (length ids) * sizeOf n = omega (arith, suc-mul (length ids) (sizeOf n)) in
+      ap (λ (l : List ℕ). replicate (sizeOf n) f ++ l) (blanks-bytes ids)
+      ∙ replicate-append-replicate (sizeOf n) (length ids * sizeOf n) f
       ∙ ap (λ (m : ℕ). replicate m f) e
 
-  pub blanks-total : (r left : ℕ) → total (λ (s : Sector). length (s .content)) (blanksFrom c h n f r left) ≡ left * sizeOf n
-  blanks-total r left =
-      sym (contents-length (blanksFrom c h n f r left)) ∙ ap length (blanks-bytes r left) ∙ length-replicate (left * sizeOf n) f
+  pub blanks-total : (ids : List SectorId) → total (λ (s : Sector). length (s .content)) (blanks n f ids) ≡ length ids * sizeOf n
+  blanks-total ids =
+      sym (contents-length (blanks n f ids)) ∙ ap length (blanks-bytes ids) ∙ length-replicate (length ids * sizeOf n) f
 
--- a formatted track by its head
-module _ (h : Head) where
-  pub formatted-rows : headBytes h ++ rowsFor (formattedBy h .sectors) [] ≡ trackFor (formattedBy h)
+-- the rows of formatted sectors by their IDs, and what is left of them
+module _ (b : List ℕ) (size : ℕ) where
+  -- those of so many IDs from a place on
+  unfoldable pub idRows : ℕ → ℕ → List ℕ
+  idRows at zero = []
+  idRows at (suc left) = rowFor (blankRow (idAt b at) size) (idRows (at + 4) left)
+
+  pub rows-blank : (n f : ℕ) → size ≡ sizeOf n → (at left : ℕ) → idRows at left ≡ rowsFor (blanks n f (idsAt b at left)) []
+  unfolding idRows idsAt blanks rowsFor
+  rows-blank n f e at zero = refl
+  rows-blank n f e at (suc left) =
+      let q : size ≡ length (replicate (sizeOf n) f) = e ∙ sym (length-replicate (sizeOf n) f) in
+      λ i. rowFor (blankRow (idAt b at) (q i)) (rows-blank n f e (at + 4) left i)
+
+  module _ (count : ℕ) where
+    pub ids-first : idRows (4 * 0) (count - 0) ≡ idRows 0 count
+    ids-first = ap (idRows 0) (omega arith)
+
+    pub ids-rest : (k : ℕ) (id : SectorId) → k < count → id ≡ idAt b (4 * k)
+        → idRows (4 * k) (count - k) ≡ rowFor (blankRow id size) (idRows (4 * (k + 1)) (count - (k + 1)))
+    unfolding idRows
+    ids-rest k id l g =
+        let p : 0 < count - k = omega arith in
+        let q : count - k - 1 ≡ count - (k + 1) = omega arith in
+        let r : 4 * k + 4 ≡ 4 * (k + 1) = omega arith in
+        rw (g, ← q, ← r) (step (count - k) p)
+      where
+        step : (left : ℕ) → 0 < left → idRows (4 * k) left ≡ rowFor (blankRow (idAt b (4 * k)) size) (idRows (4 * k + 4) (left - 1))
+        step = down (λ left l. idRows (4 * k) left ≡ rowFor (blankRow (idAt b (4 * k)) size) (idRows (4 * k + 4) l)) (λ left. refl)
+
+    pub ids-none : (k : ℕ) → count ≤ k → idRows (4 * k) (count - k) ≡ []
+    unfolding idRows
+    ids-none k l = let e : count - k ≡ 0 = omega arith in rw e
+
+-- a formatted track by its head and the bytes of its IDs
+module _ (h : Head) (ids : List ℕ) where
+  pub formatted-count : length (formattedBy h ids .sectors) ≡ h .sectors
+  unfolding formatted
+  formatted-count = blanks-length (h .size) (h .filler) (idsAt ids 0 (h .sectors)) ∙ ids-length ids 0 (h .sectors)
+
+  pub formatted-rows : headFor h (rowsFor (formattedBy h ids .sectors) []) ≡ trackFor (formattedBy h ids)
   unfolding tracksFor formatted
-  formatted-rows = let e : length (blanksFrom (h .cylinder) (h .side) (h .size) (h .filler) 1 (h .sectors)) ≡ h .sectors = blanks-length _ _ _ _ 1 (h .sectors) in cc
+  formatted-rows = let e : length (formattedBy h ids .sectors) ≡ h .sectors = formatted-count in cc
 
-  pub formatted-bytes : h .stored ≡ h .sectors * sizeOf (h .size) → replicate (h .stored) (h .filler) ≡ contents (formattedBy h .sectors)
+  pub formatted-bytes : Whole h → replicate (h .stored) (h .filler) ≡ contents (formattedBy h ids .sectors)
   unfolding formatted
   formatted-bytes e =
-      ap (λ (n : ℕ). replicate n (h .filler)) e ∙ sym (blanks-bytes (h .cylinder) (h .side) (h .size) (h .filler) 1 (h .sectors))
+      ap (λ (n : ℕ). replicate n (h .filler)) e
+      ∙ sym (blanks-bytes (h .size) (h .filler) (idsAt ids 0 (h .sectors)) ∙ ap (λ (n : ℕ). replicate (n * sizeOf (h .size)) (h .filler)) (ids-length ids 0 (h .sectors)))
 
 -- ---- the fresh format
 
@@ -220,17 +237,22 @@ unfolding sizeOf
 size-2 = refl
 
 -- one of its tracks: nine sectors of 512 bytes
-fresh-nine : (c : ℕ) → length (formatted c 0 2 9 0x2F 0xE5 .sectors) ≡ 9
-unfolding formatted
-fresh-nine c = blanks-length c 0 2 0xE5 1 9
+fresh-nine : (c : ℕ) → length (freshTrack c .sectors) ≡ 9
+unfolding formatted idsFrom
+fresh-nine c = blanks-length 2 0xE5 (idsFrom c 0 2 1 9)
 
-fresh-whole : (c : ℕ) → trackBytes (formatted c 0 2 9 0x2F 0xE5) ≡ 4608
-unfolding formatted
-fresh-whole c = omega (arith, blanks-total c 0 2 0xE5 1 9, size-2)
+fresh-whole : (c : ℕ) → trackBytes (freshTrack c) ≡ 4608
+unfolding formatted idsFrom
+fresh-whole c = omega (arith, blanks-total 2 0xE5 (idsFrom c 0 2 1 9), size-2)
 
-pub fresh-step : (c left : ℕ) → 0 < left → freshFrom c left ≡ formatted c 0 2 9 0x2F 0xE5 ∷ freshFrom (c + 1) (left - 1)
+-- what laying it by its head leaves is that track
+pub fresh-laid : (c : ℕ) (h : Head) (ids : List ℕ) → h ≡ record { cylinder = c; side = 0; size = 2; sectors = 9; gap = 0x2F; filler = 0xE5; stored = 4608 }
+    → idsAt ids 0 9 ≡ idsFrom c 0 2 1 9 → formattedBy h ids ≡ freshTrack c
+fresh-laid c h ids e f = ap (λ (x : Head). formattedBy x ids) e ∙ ap (formatted c 0 2 0x2F 0xE5) f
+
+pub fresh-step : (c left : ℕ) → 0 < left → freshFrom c left ≡ freshTrack c ∷ freshFrom (c + 1) (left - 1)
 unfolding freshFrom
-fresh-step c = down (λ left l. freshFrom c left ≡ formatted c 0 2 9 0x2F 0xE5 ∷ freshFrom (c + 1) l) (λ left. refl)
+fresh-step c = down (λ left l. freshFrom c left ≡ freshTrack c ∷ freshFrom (c + 1) l) (λ left. refl)
 
 pub fresh-tracks : (c left : ℕ) → length (freshFrom c left) ≡ left
 unfolding freshFrom
@@ -270,11 +292,11 @@ module _ (t₀ b₀ : List ℕ) (ft : 3121 ≤ length t₀) (fb : 184320 ≤ len
   }
 
   module _ (t b : List ℕ) (c at place : ℕ) (r : Freshing t₀ b₀ t b c at place) where
-    pub fresh-again : c < 40 → (t′ b′ : List ℕ) → t′ ≡ over t at (trackFor (formatted c 0 2 9 0x2F 0xE5))
-        → b′ ≡ over b place (contents (formatted c 0 2 9 0x2F 0xE5 .sectors)) → Freshing t₀ b₀ t′ b′ (c + 1) (at + 78) (place + 4608)
+    pub fresh-again : c < 40 → (t′ b′ : List ℕ) → t′ ≡ over t at (trackFor (freshTrack c))
+        → b′ ≡ over b place (contents (freshTrack c .sectors)) → Freshing t₀ b₀ t′ b′ (c + 1) (at + 78) (place + 4608)
     unfolding dataOf
     fresh-again h t′ b′ et eb =
-        let tr : Track = formatted c 0 2 9 0x2F 0xE5 in
+        let tr : Track = freshTrack c in
         let p : 0 < 40 - c = omega arith in
         let q : 40 - c - 1 ≡ 40 - (c + 1) = omega arith in
         let rest : Disk = freshFrom (c + 1) (40 - (c + 1)) in

@@ -10,53 +10,53 @@ use borrow.Author.Tests.{eq-eqb, ne-eqb, le-leb, lt-leb, leb-true}
 use Rattle.buffer.specs.Over.{over}
 use Rattle.buffer.proofs.Overs.{over-over, over-set, over-length}
 use Rattle.fields.specs.Refusals.{Result, refused, good, need, after}
+use Rattle.fields.specs.Capacities.{mostTracks, mostSectors}
 use Rattle.fields.specs.Model.{Track, Disk, total, trackBytes, sectorCount, byteCount}
 use Rattle.tracks.specs.Block.{trackOf}
-use Rattle.image.specs.Dsk.{Dsk, dskOf, headerOf}
-use Rattle.image.specs.Calls.{leftOf, tracksIn, toCome, openedOf}
-use Rattle.image.specs.Calls as image
+use Rattle.image.specs.Dsk.{Dsk, dskOf}
+use Rattle.image.specs.Calls.{tracksLeft, tracksIn, toCome, surveyed, surveyOf}
 use Rattle.fields.specs.declared.refusal.Refusal.{Refusal}
 use Rattle.fields.specs.declared.refusal.Refusal.the-variants.{BadStore, TooManyTracks, TooManySectors, NoRoom}
+use Rattle.fields.proofs.Tests.{never}
 use Rattle.tracks.specs.declared.track.Kind.{Kind}
 use Rattle.image.specs.declared.walk.Walk.{Walk}
 use Rattle.tracks.specs.declared.track.Head.{Head}
 use Rattle.image.specs.declared.walk.Totals.{Totals}
-use Rattle.image.specs.declared.walk.Surveyed.the-variants as surveyed
-use Rattle.image.specs.declared.walk.Opened.{Opened}
-use Rattle.image.specs.declared.walk.Opened.the-variants as opened
+use Rattle.image.specs.declared.walk.Surveyed.the-variants as survey
 use Rattle.image.specs.declared.walk.Step.the-variants as step
-use Rattle.image.proofs.Steps.{Says, come-split, read-opens, read-whole}
+use Rattle.image.proofs.Steps.{Says, come-split, GoodImage}
 use Rattle.store.specs.Store.{tableLength, roomOf, tracksFor, tableOf, contents, dataOf}
 use Rattle.store.specs.Fresh.{fresh, freshFrom}
 use Rattle.store.specs.Calls.{outcome, laid, within, fitting, loadOf, freshOf}
-use Rattle.loading.specs.Laying.{headBytes, listFrom, trackFor, Layable, doneOf, capacityOf}
+use Rattle.loading.specs.Laying.{blockRows, blockData, trackFor, Layable, doneOf, capacityOf}
 use Rattle.store.specs.declared.answer.Done.the-variants as done
+use Rattle.store.proofs.Checks.{room-in}
 use Rattle.store.proofs.Rounds.{contents-length}
 use Rattle.loading.proofs.Lays.{lay-on, lay-none, tracks-append, track-length, track-laid, bytes-laid, fresh-tracks, fresh-sectors, fresh-bytes}
 
 -- ---- the capacities
 
 module _ (n s m room : ℕ) where
-  pub tracks-over : 204 < n → done.Refused TooManyTracks ≡ capacityOf n s m room
+  pub tracks-over : mostTracks < n → done.Refused TooManyTracks ≡ capacityOf n s m room
   unfolding within
   tracks-over h = simp (lt-leb _ _ h)
 
-  pub sectors-over : n ≤ 204 → 2048 < s → done.Refused TooManySectors ≡ capacityOf n s m room
+  pub sectors-over : n ≤ mostTracks → mostSectors < s → done.Refused TooManySectors ≡ capacityOf n s m room
   unfolding within
   sectors-over h k = simp (le-leb _ _ h, lt-leb _ _ k)
 
-  pub bytes-over : n ≤ 204 → s ≤ 2048 → room < m → done.Refused NoRoom ≡ capacityOf n s m room
+  pub bytes-over : n ≤ mostTracks → s ≤ mostSectors → room < m → done.Refused NoRoom ≡ capacityOf n s m room
   unfolding within
   bytes-over h k l = simp (le-leb _ _ h, le-leb _ _ k, lt-leb _ _ l)
 
-  pub all-inside : n ≤ 204 → s ≤ 2048 → m ≤ room → done.Good ≡ capacityOf n s m room
+  pub all-inside : n ≤ mostTracks → s ≤ mostSectors → m ≤ room → done.Good ≡ capacityOf n s m room
   unfolding within
   all-inside h k l = simp (le-leb _ _ h, le-leb _ _ k, le-leb _ _ l)
 
   -- what the answer says of a disk
   pub told-refused : (why : Refusal) → capacityOf n s m room ≡ done.Refused why → (d : Disk) → within n s m room (good d) ≡ refused why
   unfolding within
-  told-refused why e d = told (leb n 204) (leb s 2048) (leb m room) e
+  told-refused why e d = told (leb n mostTracks) (leb s mostSectors) (leb m room) e
     where
       told : (x y z : Bool) → doneOf (need x TooManyTracks (need y TooManySectors (need z NoRoom (good tt)))) ≡ done.Refused why
           → need x TooManyTracks (need y TooManySectors (need z NoRoom (good d))) ≡ refused why
@@ -65,17 +65,14 @@ module _ (n s m room : ℕ) where
       told true false z e = cc
       told false y z e = cc
 
-  pub told-good : capacityOf n s m room ≡ done.Good → (d : Disk) → (within n s m room (good d) ≡ good d) × ((n ≤ 204) × ((s ≤ 2048) × (m ≤ room)))
+  pub told-good : capacityOf n s m room ≡ done.Good → (d : Disk) → (within n s m room (good d) ≡ good d) × ((n ≤ mostTracks) × ((s ≤ mostSectors) × (m ≤ room)))
   unfolding within
-  told-good e d = told (leb n 204) refl (leb s 2048) refl (leb m room) refl e
+  told-good e d = told (leb n mostTracks) refl (leb s mostSectors) refl (leb m room) refl e
     where
-      never : {A : Type 0} → _≡_ {A = ℕ} 0 1 → A
-      never z = absurd (omega arith)
-
-      told : (x : Bool) → leb n 204 ≡ x → (y : Bool) → leb s 2048 ≡ y → (z : Bool) → leb m room ≡ z
+      told : (x : Bool) → leb n mostTracks ≡ x → (y : Bool) → leb s mostSectors ≡ y → (z : Bool) → leb m room ≡ z
           → doneOf (need x TooManyTracks (need y TooManySectors (need z NoRoom (good tt)))) ≡ done.Good
-          → (need x TooManyTracks (need y TooManySectors (need z NoRoom (good d))) ≡ good d) × ((n ≤ 204) × ((s ≤ 2048) × (m ≤ room)))
-      told true p true q true r e = (refl, (leb-true n 204 p, (leb-true s 2048 q, leb-true m room r)))
+          → (need x TooManyTracks (need y TooManySectors (need z NoRoom (good d))) ≡ good d) × ((n ≤ mostTracks) × ((s ≤ mostSectors) × (m ≤ room)))
+      told true p true q true r e = (refl, (leb-true n mostTracks p, (leb-true s mostSectors q, leb-true m room r)))
       told true p true q false r e = never (cc)
       told true p false q z r e = never (cc)
       told false p y q z r e = never (cc)
@@ -98,7 +95,7 @@ module _ (img t₀ b₀ : List ℕ) (start : Walk) (kind : Kind) where
   module _ (t b : List ℕ) (w : Walk) (at place : ℕ) (l : Laying img t₀ b₀ start kind t b w at place) where
     -- an image that was read as good is not refused now
     pub laying-never : (why : Refusal) → Says img w (step.Refused why) → ⊥
-    laying-never why e = let x : leftOf img w ≡ good (toCome img w) = l .layable .whole in let z : _≡_ {A = ℕ} 0 1 = cc in omega arith
+    laying-never why e = let x : tracksLeft img w ≡ good (toCome img w) = l .layable .whole in never (cc)
 
     pub laying-end : Says img w step.End → (t ≡ over t₀ 1 (tracksFor (toCome img start) [])) × (b ≡ over b₀ 0 (dataOf (toCome img start)))
     unfolding tracksFor dataOf
@@ -125,7 +122,7 @@ module _ (img t₀ b₀ : List ℕ) (start : Walk) (kind : Kind) where
         }
 
     module _ (h : Head) (r : Walk) (e : Says img w (step.Track h r)) where
-      rest : (leftOf img r ≡ good (toCome img r)) × (toCome img w ≡ e .track ∷ toCome img r)
+      rest : (tracksLeft img r ≡ good (toCome img r)) × (toCome img w ≡ e .track ∷ toCome img r)
       rest = come-split img w r (e .track) (e .left) (l .layable .whole)
 
       sectors-are : h .sectors ≡ length (e .track .sectors)
@@ -147,16 +144,14 @@ module _ (img t₀ b₀ : List ℕ) (start : Walk) (kind : Kind) where
           let x : place + byteCount (e .track ∷ toCome img r) ≤ length b₀ = rw (rest .1) at (l .layable .bytes) in
           omega (arith, stored-is)
 
-      pub laying-track : (p t′ b′ : List ℕ) → p ≡ drop (w .at) img → t′ ≡ over t at (headBytes h ++ listFrom kind p 0 (h .sectors))
-          → b′ ≡ over b place (take (h .stored) (drop 0x100 p)) → Laying img t₀ b₀ start kind t′ b′ r (at + (6 + 8 * h .sectors)) (place + h .stored)
+      pub laying-track : (p t′ b′ : List ℕ) → p ≡ drop (w .at) img → t′ ≡ over t at (blockRows kind p h)
+          → b′ ≡ over b place (blockData p h) → Laying img t₀ b₀ start kind t′ b′ r (at + (6 + 8 * h .sectors)) (place + h .stored)
       unfolding dataOf
       laying-track p t′ b′ ep et eb =
           let tr : Track = e .track in
           let read : trackOf kind p ≡ good tr = (λ i. trackOf (sym (l .same-kind) i) (ep i)) ∙ e .read in
-          let x : headBytes h ++ listFrom kind p 0 (h .sectors) ≡ trackFor tr =
-          (λ i. headBytes (e .head i) ++ listFrom kind p 0 (sectors-are i)) ∙ track-laid kind p tr read in
-          let y : take (h .stored) (drop 0x100 p) ≡ contents (tr .sectors) =
-          ap (λ (n : ℕ). take n (drop 0x100 p)) stored-is ∙ bytes-laid kind p tr read in
+          let x : blockRows kind p h ≡ trackFor tr = ap (blockRows kind p) (e .head) ∙ track-laid kind p tr read in
+          let y : blockData p h ≡ contents (tr .sectors) = ap (blockData p) (e .head) ∙ bytes-laid kind p tr read in
           let et′ : t′ ≡ over t at (trackFor tr) = et ∙ ap (over t at) x in
           let eb′ : b′ ≡ over b place (contents (tr .sectors)) = eb ∙ ap (over b place) y in
           let lt : length (trackFor tr) ≡ 6 + 8 * h .sectors = omega (arith, track-length tr, sectors-are) in
@@ -183,40 +178,21 @@ module _ (img t₀ b₀ : List ℕ) (start : Walk) (kind : Kind) where
 count-first : (t : List ℕ) (n : ℕ) (rest : List ℕ) → 0 < length t → over (set t 0 n) 1 rest ≡ over t 0 (n ∷ rest)
 count-first t n rest h = ap (λ (x : List ℕ). over x 1 rest) (over-set t 0 n h) ∙ over-over t 0 (n ∷ []) rest 1 refl (omega arith)
 
-pub room-inside : (b : List ℕ) → roomOf b ≤ length b
-unfolding roomOf
-room-inside b = omega arith
-
 module _ (img t b : List ℕ) where
   pub load-length : (length t ≡ tableLength → ⊥) → outcome (done.Refused BadStore) t b ≡ loadOf img t b
   unfolding loadOf
   load-length h = simp (ne-eqb _ _ h)
 
-  pub load-unread : (why : Refusal) → length t ≡ tableLength → surveyed.Refused why ≡ image.surveyOf (dskOf img) → outcome (done.Refused why) t b ≡ loadOf img t b
-  unfolding loadOf
+  pub load-unread : (why : Refusal) → length t ≡ tableLength → survey.Refused why ≡ surveyOf img → outcome (done.Refused why) t b ≡ loadOf img t b
+  unfolding loadOf surveyOf
   load-unread why h e = simp (eq-eqb _ _ h) (told (dskOf img) e)
     where
-      told : (r : Result Dsk) → surveyed.Refused why ≡ image.surveyOf r
+      told : (r : Result Dsk) → survey.Refused why ≡ surveyed img r
           → outcome (done.Refused why) t b ≡ laid t b (after r (λ d. fitting (roomOf b) (d .disk)))
       told (refused y) f = cc
       told (good d) f = cc
 
--- an image that was surveyed as good
-pub record Surveyed (img : List ℕ) (n : Totals) : Type 0 where
-  pub dsk : Dsk
-  pub read : dskOf img ≡ good dsk
-  pub tracks : n .tracks ≡ length (dsk .disk)
-  pub sectors : n .sectors ≡ sectorCount (dsk .disk)
-  pub bytes : n .bytes ≡ byteCount (dsk .disk)
-
-pub surveyed-good : (img : List ℕ) (n : Totals) → surveyed.Good n ≡ image.surveyOf (dskOf img) → Surveyed img n
-surveyed-good img n e = told (dskOf img) refl e
-  where
-    told : (r : Result Dsk) → dskOf img ≡ r → surveyed.Good n ≡ image.surveyOf r → Surveyed img n
-    told (refused why) q f = let z : _≡_ {A = ℕ} 0 1 = cc in absurd (omega arith)
-    told (good d) q f = record { dsk = d; read = q; tracks = cc; sectors = cc; bytes = cc }
-
-module _ (img t b : List ℕ) (n : Totals) (s : Surveyed img n) (h : length t ≡ tableLength) (room : ℕ) (er : room ≡ roomOf b) where
+module _ (img t b : List ℕ) (n : Totals) (w : Walk) (s : GoodImage img n w) (h : length t ≡ tableLength) (room : ℕ) (er : room ≡ roomOf b) where
   -- the capacities of the disk that was read
   asked : fitting (roomOf b) (s .dsk .disk) ≡ within (n .tracks) (n .sectors) (n .bytes) room (good (s .dsk .disk))
   asked = cc (s .tracks, s .sectors, s .bytes, er)
@@ -228,40 +204,33 @@ module _ (img t b : List ℕ) (n : Totals) (s : Surveyed img n) (h : length t �
   pub load-refused : (why : Refusal) → capacityOf (n .tracks) (n .sectors) (n .bytes) room ≡ done.Refused why → outcome (done.Refused why) t b ≡ loadOf img t b
   load-refused why e = sym (load-is ∙ ap (laid t b) (told-refused (n .tracks) (n .sectors) (n .bytes) room why e (s .dsk .disk)))
 
-  module _ (e : capacityOf (n .tracks) (n .sectors) (n .bytes) room ≡ done.Good) (o : Opened) (eo : o ≡ openedOf img (headerOf img)) where
+  module _ (e : capacityOf (n .tracks) (n .sectors) (n .bytes) room ≡ done.Good) where
     inside : (within (n .tracks) (n .sectors) (n .bytes) room (good (s .dsk .disk)) ≡ good (s .dsk .disk))
-        × ((n .tracks ≤ 204) × ((n .sectors ≤ 2048) × (n .bytes ≤ room)))
+        × ((n .tracks ≤ mostTracks) × ((n .sectors ≤ mostSectors) × (n .bytes ≤ room)))
     inside = told-good (n .tracks) (n .sectors) (n .bytes) room e (s .dsk .disk)
 
-    pub load-few : n .tracks ≤ 204
+    pub load-few : n .tracks ≤ mostTracks
     load-few = inside .1 .0
 
-    pub load-never : (why : Refusal) → o ≡ opened.Refused why → ⊥
-    load-never = read-opens img (s .dsk) (s .read) o eo
+    to-come : toCome img w ≡ s .dsk .disk
+    to-come = ap tracksIn (s .whole)
 
-    module _ (w : Walk) (f : o ≡ opened.Ready w) where
-      whole : leftOf img w ≡ good (s .dsk .disk)
-      whole = read-whole img (s .dsk) (s .read) o eo w f
+    pub load-layable : (t′ : List ℕ) → length t′ ≡ length t → Layable img w 1 0 (length t′) (length b)
+    load-layable t′ l = record {
+      whole = s .whole ∙ ap good (sym to-come);
+      rows = rw to-come (omega (arith, inside .1, s .tracks, s .sectors));
+      bytes = rw to-come (omega (arith, inside .1, s .bytes, room-in b));
+    }
 
-      pub load-layable : (t′ : List ℕ) → length t′ ≡ length t → Layable img w 1 0 (length t′) (length b)
-      load-layable t′ l =
-          let d : toCome img w ≡ s .dsk .disk = ap tracksIn whole in
-          record {
-            whole = whole ∙ ap good (sym d);
-            rows = rw d (omega (arith, inside .1, s .tracks, s .sectors));
-            bytes = rw d (omega (arith, inside .1, s .bytes, room-inside b));
-          }
-
-      pub load-good : (t′ b′ : List ℕ) → t′ ≡ over (set t 0 (n .tracks)) 1 (tracksFor (toCome img w) []) → b′ ≡ over b 0 (dataOf (toCome img w))
-          → outcome done.Good t′ b′ ≡ loadOf img t b
-      unfolding tableOf
-      load-good t′ b′ et eb =
-          let d : toCome img w ≡ s .dsk .disk = ap tracksIn whole in
-          let x : t′ ≡ over t 0 (tableOf (s .dsk .disk)) =
-          et ∙ (λ i. over (set t 0 (s .tracks i)) 1 (tracksFor (d i) []))
-          ∙ count-first t (length (s .dsk .disk)) (tracksFor (s .dsk .disk) []) (omega arith) in
-          let y : b′ ≡ over b 0 (dataOf (s .dsk .disk)) = eb ∙ ap (λ (z : Disk). over b 0 (dataOf z)) d in
-          (λ i. outcome done.Good (x i) (y i)) ∙ sym (load-is ∙ ap (laid t b) (inside .0))
+    pub load-good : (t′ b′ : List ℕ) → t′ ≡ over (set t 0 (n .tracks)) 1 (tracksFor (toCome img w) []) → b′ ≡ over b 0 (dataOf (toCome img w))
+        → outcome done.Good t′ b′ ≡ loadOf img t b
+    unfolding tableOf
+    load-good t′ b′ et eb =
+        let x : t′ ≡ over t 0 (tableOf (s .dsk .disk)) =
+        et ∙ (λ i. over (set t 0 (s .tracks i)) 1 (tracksFor (to-come i) []))
+        ∙ count-first t (length (s .dsk .disk)) (tracksFor (s .dsk .disk) []) (omega arith) in
+        let y : b′ ≡ over b 0 (dataOf (s .dsk .disk)) = eb ∙ ap (λ (z : Disk). over b 0 (dataOf z)) to-come in
+        (λ i. outcome done.Good (x i) (y i)) ∙ sym (load-is ∙ ap (laid t b) (inside .0))
 
 -- ---- what the fresh format leaves
 
@@ -279,7 +248,7 @@ module _ (t b : List ℕ) where
     fresh-refused l = sym (fresh-is ∙ ap (laid t b) (told-refused 40 360 184320 room NoRoom (sym (bytes-over 40 360 184320 room (omega arith) (omega arith) l)) fresh))
 
     pub fresh-room : 184320 ≤ room → 184320 ≤ length b
-    fresh-room l = omega (arith, room-inside b)
+    fresh-room l = omega (arith, room-in b)
 
     pub fresh-good : 184320 ≤ room → (t′ b′ : List ℕ) → t′ ≡ over (set t 0 40) 1 (tracksFor (freshFrom 0 40) []) → b′ ≡ over b 0 (dataOf (freshFrom 0 40))
         → outcome done.Good t′ b′ ≡ freshOf t b

@@ -2,3 +2,4 @@
 pub mod Numbers
 pub mod Seen
 pub mod Polls
+pub mod Drives

@@ -8,15 +8,18 @@ use lib.ListN.{length, getD}
 use lib.Dec.{eqb, ltb, leb}
 use borrow.Author.Tests.{ltb-false, leb-false}
 use Rattle.fields.specs.Model.{sizeOf}
+use Rattle.fields.proofs.Tests.{never}
 use Rattle.store.specs.Store.{transferRoom}
 use Rattle.registers.specs.declared.regs.Regs.{Regs}
 use Rattle.registers.specs.declared.regs.Pending.{Pending}
-use Rattle.kinds.specs.Table.{kindOf, bytesFor}
+use Rattle.codes.specs.Table.{commandOf, bytesFor}
 use Rattle.registers.specs.View.{impossible, impossibleIn, wrongWrite}
-use Rattle.kinds.proofs.Rows.{bytes-range}
+use Rattle.codes.proofs.Rows.{bytes-range}
+use Rattle.store.proofs.Checks.{transfer-in}
+use Rattle.registers.specs.Boxes.{fitted}
 
 neither : (a b : Bool) → (a || b) ≡ false → (a ≡ false) × (b ≡ false)
-neither true b e = let z : _≡_ {A = ℕ} 0 1 = cc in absurd (omega arith)
+neither true b e = never (cc)
 neither false b e = (refl, e)
 
 -- the numbers are inside
@@ -24,7 +27,7 @@ pub record Possible (r : Regs) : Type 0 where
   pub place-in : r .place ≤ r .fill
   pub from-in : r .from ≤ r .until
   pub fill-in : r .fill ≤ 7
-  pub count-in : r .count < bytesFor (kindOf (getD (r .command) 0 0))
+  pub count-in : r .count < bytesFor (commandOf (getD (r .command) 0 0))
   pub lost-in : r .lost ≤ 2
   pub write-in : wrongWrite (r .write) ≡ false
 
@@ -34,13 +37,13 @@ possible r e =
     let e1 = neither (ltb (r .fill) (r .place)) _ e in
     let e2 = neither (ltb (r .until) (r .from)) _ (e1 .1) in
     let e3 = neither (ltb 7 (r .fill)) _ (e2 .1) in
-    let e4 = neither (leb (bytesFor (kindOf (getD (r .command) 0 0))) (r .count)) _ (e3 .1) in
+    let e4 = neither (leb (bytesFor (commandOf (getD (r .command) 0 0))) (r .count)) _ (e3 .1) in
     let e5 = neither (ltb 2 (r .lost)) _ (e4 .1) in
     record {
       place-in = ltb-false (r .fill) (r .place) (e1 .0);
       from-in = ltb-false (r .until) (r .from) (e2 .0);
       fill-in = ltb-false 7 (r .fill) (e3 .0);
-      count-in = leb-false (bytesFor (kindOf (getD (r .command) 0 0))) (r .count) (e4 .0);
+      count-in = leb-false (bytesFor (commandOf (getD (r .command) 0 0))) (r .count) (e4 .0);
       lost-in = ltb-false 2 (r .lost) (e5 .0);
       write-in = e5 .1;
     }
@@ -54,21 +57,17 @@ unfolding impossibleIn
 until-in x r e = ltb-false (transferRoom x) (r .until) (neither (impossible r) (ltb (transferRoom x) (r .until)) e .1)
 
 pub count-few : (r : Regs) → impossible r ≡ false → r .count < 9
-count-few r e = omega (arith, possible r e .count-in, bytes-range (kindOf (getD (r .command) 0 0)) .1)
-
-room-length : (x : List ℕ) → transferRoom x ≤ length x
-unfolding transferRoom
-room-length x = omega arith
+count-few r e = omega (arith, possible r e .count-in, bytes-range (commandOf (getD (r .command) 0 0)) .1)
 
 -- unread data lie in the transfer buffer
 pub until-long : (x : List ℕ) (r : Regs) → impossibleIn x r ≡ false → r .until ≤ length x
-until-long x r e = omega (arith, until-in x r e, room-length x)
+until-long x r e = omega (arith, until-in x r e, transfer-in x)
 
 -- a write in progress
 module _ (p : Pending) (e : wrongWrite p ≡ false) where
-  taken-of : (f : Bool) → f ≡ true → (f && (leb (sizeOf (p .id .n)) (p .taken) || not (eqb (p .c1 % 4) 0))) ≡ false → p .taken < sizeOf (p .id .n)
+  taken-of : (f : Bool) → f ≡ true → (f && (leb (sizeOf (p .id .n)) (p .taken) || not (fitted (p .c1)))) ≡ false → p .taken < sizeOf (p .id .n)
   taken-of true q h = leb-false (sizeOf (p .id .n)) (p .taken) (neither (leb (sizeOf (p .id .n)) (p .taken)) _ h .0)
-  taken-of false q h = let z : _≡_ {A = ℕ} 0 1 = cc in absurd (omega arith)
+  taken-of false q h = never (cc)
 
   pub taken-few : p .on ≡ true → p .taken < sizeOf (p .id .n)
   taken-few q = taken-of (p .on) q e

@@ -9,6 +9,7 @@ use mathlib.Core.Option.{none}
 use lib.ListN.{length, drop, length-drop}
 use lib.Dec.{eqb}
 use borrow.Author.Tests.{eqb-true, eqb-false}
+use Rattle.fields.proofs.Tests.{never}
 use Rattle.registers.specs.Boxes.{World}
 use Rattle.registers.specs.Ports.{on?, some?, polled, afterStatus}
 
@@ -38,10 +39,10 @@ module _ (w : World) (idle : w .inside .write ≡ none) where
 
 none-left : (l : List ℕ) → some? l ≡ false → length l ≡ 0
 none-left [] e = refl
-none-left (x ∷ l) e = let z : _≡_ {A = ℕ} 0 1 = cc in absurd (omega arith)
+none-left (x ∷ l) e = never (cc)
 
 some-left : (l : List ℕ) → some? l ≡ true → 1 ≤ length l
-some-left [] e = let z : _≡_ {A = ℕ} 0 1 = cc in absurd (omega arith)
+some-left [] e = never (cc)
 some-left (x ∷ l) e = omega arith
 
 -- after n reads (L + n) / 3 bytes are gone

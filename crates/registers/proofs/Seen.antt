@@ -10,19 +10,20 @@ use lib.ListN.{length, getD, take, drop, drop-of-length-le}
 use lib.Seq.{slice, slice-cons, length-take-le}
 use lib.Dec.{eqb, ltb}
 use borrow.Author.Tests.{ltb-true, ltb-false, lt-ltb}
+use Rattle.fields.proofs.Tests.{never}
 use Rattle.store.specs.Store.{diskOf}
 use Rattle.store.specs.declared.answer.Done.the-variants as finished
 use Rattle.registers.specs.declared.regs.Regs.{Regs}
 use Rattle.registers.specs.declared.regs.Pending.{Pending}
 use Rattle.registers.specs.declared.regs.Told.{Told}
-use Rattle.registers.specs.declared.regs.Written.{Written}
+use Rattle.registers.specs.declared.regs.Switched.{Switched}
 use Rattle.registers.specs.declared.regs.Byte.the-variants as byte
 use Rattle.registers.specs.declared.regs.Flag.the-variants as flag
 use Rattle.registers.specs.Boxes.{Slot, World}
 use Rattle.registers.specs.Ports.{settled, some?, on?, status, Poll, Stays, Counts, Drops, pollBy, polled, settledIn, afterStatus, Source, Bytes, Replies, Neither, sourceBy, given, readFrom, portByte, afterRead, setMotor, changeDisk}
 use Rattle.registers.specs.View.{slotIf, slotOf, writingIf, insideOf, frontOf, worldOf, impossibleIn}
 use Rattle.registers.specs.Settle.{sought}
-use Rattle.registers.specs.Calls.{statusOf, regsPolled, afterStatusOf, statusRead, sourceOf, byteFrom, regsRead, dataRead, motorSet, diskSet, motorOf, trackOf}
+use Rattle.registers.specs.Calls.{statusOf, regsPolled, afterStatusOf, statusRead, sourceOf, byteFrom, regsRead, dataRead, motorSet, diskSet, motorOf, currentTrack}
 use Rattle.registers.proofs.Numbers.{possible, possible-in, until-long, count-few}
 
 -- ---- whether a box is empty
@@ -96,9 +97,9 @@ module _ (r : Regs) (h t b x : List ℕ) (ok : impossibleIn x r ≡ false) (long
   polled-slot Drops = refl
 
   drops-unread : (w u v : Bool) → pollBy w u v ≡ Drops → u ≡ true
-  drops-unread true u v e = let z : _≡_ {A = ℕ} 0 1 = cc in absurd (omega arith)
+  drops-unread true u v e = never (cc)
   drops-unread false true v e = refl
-  drops-unread false false v e = let z : _≡_ {A = ℕ} 0 1 = cc in absurd (omega arith)
+  drops-unread false false v e = never (cc)
 
   status-after : worldOf (afterStatusOf r) h t b x ≡ afterStatus W
   unfolding afterStatusOf afterStatus
@@ -169,7 +170,7 @@ module _ (r : Regs) (h t b x : List ℕ) (ok : impossibleIn x r ≡ false) (long
   -- ---- Motor, track and disk
 
   -- a change, seen
-  abbrev pub Leaves : Written → World → List ℕ → List ℕ → Type 0
+  abbrev pub Leaves : Switched → World → List ℕ → List ℕ → Type 0
   Leaves a w t′ b′ = (a .done ≡ finished.Good) × (worldOf (a .regs) h t′ b′ x ≡ w)
 
   pub motor-seen : (on : Bool) → Leaves (motorSet on r) (setMotor on W) t b
@@ -185,6 +186,6 @@ module _ (r : Regs) (h t b x : List ℕ) (ok : impossibleIn x r ≡ false) (long
   unfolding motorOf insideOf
   motor-told = rw (possible-in x r ok)
 
-  pub track-told : trackOf r ≡ byte.Of (W .inside .cylinder)
-  unfolding trackOf insideOf
+  pub track-told : currentTrack r ≡ byte.Of (W .inside .drives .first .cylinder)
+  unfolding currentTrack insideOf
   track-told = rw (possible-in x r ok)

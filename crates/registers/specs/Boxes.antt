@@ -1,11 +1,13 @@
 -- The boxes that a controller has, and the changes that a byte sent to it can bring (01, "Status and data ports").
 use Prim.Native.Nat.{ℕ, _+_, _%_}
-use mathlib.Core.Bool.{Bool}
+use mathlib.Core.Bool.{Bool, true, false}
 use mathlib.Core.List.{List, [], _∷_, _++_}
 use mathlib.Core.Option.{Option, none, some}
+use lib.Dec.{eqb}
 use Rattle.fields.specs.Refusals.{Result, good}
 use Rattle.fields.specs.Model.{Disk}
 use Rattle.fields.specs.declared.id.SectorId.{SectorId}
+use Rattle.codes.specs.Second.{driveOf}
 use Rattle.registers.specs.declared.regs.Seek.{Seek}
 use Rattle.registers.specs.declared.regs.Seek.the-variants.{Idle, Running, Done}
 
@@ -23,20 +25,28 @@ pub data Slot : Type 0 where
   Empty : Slot
   Holds : Result Disk → Slot
 
+-- a drive: the cylinder that its head is over, and what is in it
+pub record Bay : Type 0 where
+  pub cylinder : ℕ
+  pub slot : Slot
+
+-- the drives that are fitted: drive 0
+pub record Drives : Type 0 where
+  pub first : Bay
+
 -- a write in progress: the command's second byte c1, the sector's ID, and the bytes that are held so far
 pub record Writing : Type 0 where
-  pub unit : ℕ
+  pub c1 : ℕ
   pub id : SectorId
   pub held : List ℕ
 
--- what only sent bytes change: motor, cylinder, Read ID's index, a command partly sent, a write in progress; and the drive
+-- what only sent bytes change: motor, Read ID's index, a command partly sent, a write in progress, the drives
 pub record Inside : Type 0 where
   pub motor : Bool
-  pub cylinder : ℕ
   pub index : ℕ
   pub command : List ℕ
   pub write : Option Writing
-  pub slot : Slot
+  pub drives : Drives
 
 -- what port reads change too: the seek state, the unread reply, the unread data, the lost count
 pub record Front : Type 0 where
@@ -53,9 +63,35 @@ pub record World : Type 0 where
 -- a new controller: `Floppy::new`
 unfoldable pub newWorld : World
 newWorld = record {
-  inside = record { motor = Bool.false; cylinder = 0; index = 0; command = []; write = none; slot = Empty };
+  inside = record {
+    motor = false;
+    index = 0;
+    command = [];
+    write = none;
+    drives = record { first = record { cylinder = 0; slot = Empty } };
+  };
   front = record { seek = Idle; reply = []; unread = []; lost = 0 };
 }
+
+-- ---- The drive that a command names
+
+-- whether it is fitted, the cylinder that it shows, and what is in it
+pub record Named : Type 0 where
+  pub fitted : Bool
+  pub cylinder : ℕ
+  pub slot : Slot
+
+-- drive 0 is fitted, and no other
+abbrev pub fitted : ℕ → Bool
+fitted c1 = eqb (driveOf c1) 0
+
+-- a drive that is not fitted is empty, and shows the cylinder of drive 0
+abbrev pub namedIf : Bool → Bay → Named
+namedIf true d = record { fitted = true; cylinder = d .cylinder; slot = d .slot }
+namedIf false d = record { fitted = false; cylinder = d .cylinder; slot = Empty }
+
+unfoldable pub named : ℕ → Drives → Named
+named c1 d = namedIf (fitted c1) (d .first)
 
 -- ---- What a sent byte does, as data
 
@@ -72,19 +108,23 @@ pub data Change : Type 0 where
   Start : ℕ → SectorId → Change
   Finish : Change
 
+-- a reply of seven bytes: st0, st1, st2 and four more
+abbrev pub seven : ℕ → ℕ → ℕ → SectorId → List ℕ
+seven st0 st1 st2 id = st0 ∷ st1 ∷ st2 ∷ id .c ∷ id .h ∷ id .r ∷ id .n ∷ []
+
 -- a change in front: none, a reply, a reply unless one is unread, a seek, what Sense Interrupt tells, data with their reply
-pub data Shift : Type 0 where
-  Stay : Shift
-  Reply : List ℕ → Shift
-  ReplyIfNone : List ℕ → Shift
-  Seeking : Shift
-  Interrupt : ℕ → Shift
-  Serve : List ℕ → List ℕ → Shift
+pub data Response : Type 0 where
+  Stay : Response
+  Reply : List ℕ → Response
+  ReplyIfNone : List ℕ → Response
+  Seeking : Response
+  Interrupt : ℕ → Response
+  Serve : List ℕ → List ℕ → Response
 
 -- all that a command, or the end of a write, does: the changes, in order, and the disk that is then in the drive where it is another
 pub record Effect : Type 0 where
   pub changes : List Change
-  pub shift : Shift
+  pub response : Response
   pub put : Option Disk
 
 -- all that a byte does
@@ -94,29 +134,41 @@ pub record Sent : Type 0 where
 
 -- ---- What that means for the boxes
 
--- the boxes with a command, or with a write
+-- the boxes with a command, with a write, with drives
 abbrev pub withCommand : List ℕ → Inside → Inside
-withCommand x i = record { motor = i .motor; cylinder = i .cylinder; index = i .index; command = x; write = i .write; slot = i .slot }
+withCommand x i = record { motor = i .motor; index = i .index; command = x; write = i .write; drives = i .drives }
 
 abbrev pub withWrite : Option Writing → Inside → Inside
-withWrite x i = record { motor = i .motor; cylinder = i .cylinder; index = i .index; command = i .command; write = x; slot = i .slot }
+withWrite x i = record { motor = i .motor; index = i .index; command = i .command; write = x; drives = i .drives }
 
--- one more byte is held
-abbrev pub holding : ℕ → Option Writing → Option Writing
-holding b none = none
-holding b (some w) = some record { unit = w .unit; id = w .id; held = w .held ++ (b ∷ []) }
+abbrev pub withDrives : Drives → Inside → Inside
+withDrives x i = record { motor = i .motor; index = i .index; command = i .command; write = i .write; drives = x }
+
+-- a write of which one more byte is held
+abbrev pub holding : ℕ → Writing → Writing
+holding b w = record { c1 = w .c1; id = w .id; held = w .held ++ (b ∷ []) }
+
+abbrev pub holdingIn : ℕ → Option Writing → Option Writing
+holdingIn b none = none
+holdingIn b (some w) = some (holding b w)
 
 unfoldable pub taken : Taking → Inside → Inside
 taken (Add b) i = withCommand (i .command ++ (b ∷ [])) i
-taken (Hold b) i = withWrite (holding b (i .write)) i
+taken (Hold b) i = withWrite (holdingIn b (i .write)) i
+
+-- the drives with the head over another cylinder, and with something else in
+abbrev pub movedTo : ℕ → Drives → Drives
+movedTo c d = record { first = record { cylinder = c; slot = d .first .slot } }
+
+abbrev pub loadedWith : Slot → Drives → Drives
+loadedWith x d = record { first = record { cylinder = d .first .cylinder; slot = x } }
 
 -- after 65,535 comes 0
 unfoldable pub changed : Change → Inside → Inside
 changed Clear i = withCommand [] i
-changed (MoveTo c) i = record { motor = i .motor; cylinder = c; index = i .index; command = i .command; write = i .write; slot = i .slot }
-changed Turn i =
-    record { motor = i .motor; cylinder = i .cylinder; index = (i .index + 1) % 65536; command = i .command; write = i .write; slot = i .slot }
-changed (Start unit id) i = withWrite (some record { unit = unit; id = id; held = [] }) i
+changed (MoveTo c) i = withDrives (movedTo c (i .drives)) i
+changed Turn i = record { motor = i .motor; index = (i .index + 1) % 65536; command = i .command; write = i .write; drives = i .drives }
+changed (Start c1 id) i = withWrite (some record { c1 = c1; id = id; held = [] }) i
 changed Finish i = withWrite none i
 
 unfoldable pub allChanged : List Change → Inside → Inside
@@ -125,7 +177,7 @@ allChanged (x ∷ xs) i = allChanged xs (changed x i)
 
 -- a disk is put in the drive, where there is one to put
 abbrev pub withSlot : Slot → Inside → Inside
-withSlot s i = record { motor = i .motor; cylinder = i .cylinder; index = i .index; command = i .command; write = i .write; slot = s }
+withSlot x i = withDrives (loadedWith x (i .drives)) i
 
 unfoldable pub putIn : Option Disk → Inside → Inside
 putIn none i = i
@@ -146,10 +198,10 @@ interrupted c f Idle = withReply (0x80 ∷ c ∷ []) f
 interrupted c f Running = record { seek = Done; reply = 0x20 ∷ c ∷ []; unread = f .unread; lost = f .lost }
 interrupted c f Done = withReply (0x80 ∷ c ∷ []) f
 
-unfoldable pub shifted : Shift → Front → Front
-shifted Stay f = f
-shifted (Reply x) f = withReply x f
-shifted (ReplyIfNone x) f = withReply (ifNone x (f .reply)) f
-shifted Seeking f = record { seek = Running; reply = []; unread = f .unread; lost = f .lost }
-shifted (Interrupt c) f = interrupted c f (f .seek)
-shifted (Serve bytes x) f = record { seek = f .seek; reply = x; unread = bytes; lost = f .lost }
+unfoldable pub responded : Response → Front → Front
+responded Stay f = f
+responded (Reply x) f = withReply x f
+responded (ReplyIfNone x) f = withReply (ifNone x (f .reply)) f
+responded Seeking f = record { seek = Running; reply = []; unread = f .unread; lost = f .lost }
+responded (Interrupt c) f = interrupted c f (f .seek)
+responded (Serve bytes x) f = record { seek = f .seek; reply = x; unread = bytes; lost = f .lost }

@@ -107,11 +107,10 @@ unfoldable pub setMotor : Bool → World → World
 setMotor on w = record {
   inside = record {
     motor = on;
-    cylinder = w .inside .cylinder;
     index = w .inside .index;
     command = w .inside .command;
     write = w .inside .write;
-    slot = w .inside .slot;
+    drives = w .inside .drives;
   };
   front = w .front;
 }

@@ -5,20 +5,22 @@ use mathlib.Core.List.{List, [], _∷_, _++_}
 use lib.ListN.{length, set, replicate}
 use lib.Dec.{ltb}
 use Rattle.fields.specs.Refusals.{Result, refused, good}
-use Rattle.store.specs.declared.answer.Done.{Done as Finished}
-use Rattle.store.specs.declared.answer.Done.the-variants as finished
+use Rattle.fields.specs.declared.refusal.Refusal.{Refusal}
 use Rattle.registers.specs.declared.regs.Regs.{Regs}
 use Rattle.registers.specs.declared.regs.Drive.{Drive}
 use Rattle.registers.specs.declared.regs.Pending.{Pending}
+use Rattle.registers.specs.declared.regs.Receipt.{Receipt}
+use Rattle.registers.specs.declared.regs.Receipt.the-variants as receipt
 use Rattle.registers.specs.declared.regs.Written.{Written}
 use Rattle.registers.specs.declared.regs.Seek.{Seek}
 use Rattle.registers.specs.declared.regs.Seek.the-variants.{Idle, Running, Done}
-use Rattle.registers.specs.Boxes.{Taking, Add, Hold, Change, Clear, MoveTo, Turn, Start, Finish, Shift, Stay, Reply, ReplyIfNone, Seeking, Interrupt, Serve, Effect}
+use Rattle.registers.specs.Boxes.{fitted, Taking, Add, Hold, Change, Clear, MoveTo, Turn, Start, Finish, Response, Stay, Reply, ReplyIfNone}
+use Rattle.registers.specs.Boxes.{Seeking, Interrupt, Serve, Effect}
 
 -- ---- The registers, with some of them anew
 
-abbrev pub withCommand : List ℕ → ℕ → Regs → Regs
-withCommand x n r = record {
+abbrev pub regsWithCommand : List ℕ → ℕ → Regs → Regs
+regsWithCommand x n r = record {
   command = x;
   count = n;
   reply = r .reply;
@@ -33,8 +35,8 @@ withCommand x n r = record {
   drive = r .drive;
 }
 
-abbrev pub withReply : List ℕ → ℕ → ℕ → Regs → Regs
-withReply x p n r = record {
+abbrev pub regsWithReply : List ℕ → ℕ → ℕ → Regs → Regs
+regsWithReply x p n r = record {
   command = r .command;
   count = r .count;
   reply = x;
@@ -49,8 +51,8 @@ withReply x p n r = record {
   drive = r .drive;
 }
 
-abbrev pub withUnread : ℕ → ℕ → ℕ → Regs → Regs
-withUnread p n l r = record {
+abbrev pub regsWithUnread : ℕ → ℕ → ℕ → Regs → Regs
+regsWithUnread p n l r = record {
   command = r .command;
   count = r .count;
   reply = r .reply;
@@ -65,8 +67,8 @@ withUnread p n l r = record {
   drive = r .drive;
 }
 
-abbrev pub withIndex : ℕ → Regs → Regs
-withIndex x r = record {
+abbrev pub regsWithIndex : ℕ → Regs → Regs
+regsWithIndex x r = record {
   command = r .command;
   count = r .count;
   reply = r .reply;
@@ -81,8 +83,8 @@ withIndex x r = record {
   drive = r .drive;
 }
 
-abbrev pub withWrite : Pending → Regs → Regs
-withWrite x r = record {
+abbrev pub regsWithWrite : Pending → Regs → Regs
+regsWithWrite x r = record {
   command = r .command;
   count = r .count;
   reply = r .reply;
@@ -97,8 +99,8 @@ withWrite x r = record {
   drive = r .drive;
 }
 
-abbrev pub withDrive : Drive → Regs → Regs
-withDrive x r = record {
+abbrev pub regsWithDrive : Drive → Regs → Regs
+regsWithDrive x r = record {
   command = r .command;
   count = r .count;
   reply = r .reply;
@@ -113,8 +115,8 @@ withDrive x r = record {
   drive = x;
 }
 
-abbrev pub withMotor : Bool → Regs → Regs
-withMotor x r = record {
+abbrev pub regsWithMotor : Bool → Regs → Regs
+regsWithMotor x r = record {
   command = r .command;
   count = r .count;
   reply = r .reply;
@@ -129,34 +131,55 @@ withMotor x r = record {
   drive = r .drive;
 }
 
+-- ---- Answers
+
+-- a byte that was taken, with the registers then; and one that was not, with the registers as they came
+abbrev pub accepted : Regs → Written
+accepted r = record { receipt = receipt.Good; regs = r }
+
+abbrev pub declined : Refusal → Regs → Written
+declined why r = record { receipt = receipt.Refused why; regs = r }
+
+-- ---- The drive that a command names
+
+-- one that is not fitted has no disk in, and shows the cylinder of drive 0
+abbrev pub driveIf : Bool → Drive → Drive
+driveIf true d = d
+driveIf false d = record { cylinder = d .cylinder; seek = d .seek; disk = false }
+
+unfoldable pub driveNamed : ℕ → Regs → Drive
+driveNamed c1 r = driveIf (fitted c1) (r .drive)
+
+-- ---- Replies and seeks
+
 -- a reply, with zeros behind it
 abbrev pub replied : List ℕ → Regs → Regs
-replied bytes r = withReply (bytes ++ replicate (7 - length bytes) 0) 0 (length bytes) r
+replied bytes r = regsWithReply (bytes ++ replicate (7 - length bytes) 0) 0 (length bytes) r
 
 -- the drive with a seek state
 abbrev pub sought : Seek → Regs → Regs
-sought s r = withDrive (record { cylinder = r .drive .cylinder; seek = s; disk = r .drive .disk }) r
+sought s r = regsWithDrive (record { cylinder = r .drive .cylinder; seek = s; disk = r .drive .disk }) r
 
 -- ---- How a byte is taken
 
 abbrev pub regsTaken : Taking → Regs → Regs
-regsTaken (Add b) r = withCommand (set (r .command) (r .count) b) (r .count + 1) r
+regsTaken (Add b) r = regsWithCommand (set (r .command) (r .count) b) (r .count + 1) r
 regsTaken (Hold b) r =
-    withWrite (record { on = r .write .on; c1 = r .write .c1; id = r .write .id; taken = r .write .taken + 1 }) r
+    regsWithWrite (record { on = r .write .on; c1 = r .write .c1; id = r .write .id; taken = r .write .taken + 1 }) r
 
 abbrev pub heldTaken : Taking → Regs → List ℕ → List ℕ
 heldTaken (Add b) r h = h
 heldTaken (Hold b) r h = set h (r .write .taken) b
 
--- ---- Changes and shifts
+-- ---- Changes and responses
 
 -- a command that is done with leaves its bytes, a write its c1 and ID
 abbrev pub regsChanged : Change → Regs → Regs
-regsChanged Clear r = withCommand (r .command) 0 r
-regsChanged (MoveTo c) r = withDrive (record { cylinder = c; seek = r .drive .seek; disk = r .drive .disk }) r
-regsChanged Turn r = withIndex ((r .index + 1) % 65536) r
-regsChanged (Start unit id) r = withWrite (record { on = true; c1 = unit; id = id; taken = 0 }) r
-regsChanged Finish r = withWrite (record { on = false; c1 = r .write .c1; id = r .write .id; taken = 0 }) r
+regsChanged Clear r = regsWithCommand (r .command) 0 r
+regsChanged (MoveTo c) r = regsWithDrive (record { cylinder = c; seek = r .drive .seek; disk = r .drive .disk }) r
+regsChanged Turn r = regsWithIndex ((r .index + 1) % 65536) r
+regsChanged (Start c1 id) r = regsWithWrite (record { on = true; c1 = c1; id = id; taken = 0 }) r
+regsChanged Finish r = regsWithWrite (record { on = false; c1 = r .write .c1; id = r .write .id; taken = 0 }) r
 
 unfoldable pub regsAll : List Change → Regs → Regs
 regsAll [] r = r
@@ -171,24 +194,24 @@ interruptedBy c r Idle = replied (0x80 ∷ c ∷ []) r
 interruptedBy c r Running = replied (0x20 ∷ c ∷ []) (sought Done r)
 interruptedBy c r Done = replied (0x80 ∷ c ∷ []) r
 
-unfoldable pub regsShifted : Shift → Regs → Regs
-regsShifted Stay r = r
-regsShifted (Reply bytes) r = replied bytes r
-regsShifted (ReplyIfNone bytes) r = ifUnread (ltb (r .place) (r .fill)) bytes r
-regsShifted Seeking r = replied [] (sought Running r)
-regsShifted (Interrupt c) r = interruptedBy c r (r .drive .seek)
-regsShifted (Serve bytes reply) r = replied reply (withUnread 0 (length bytes) (r .lost) r)
+unfoldable pub regsResponded : Response → Regs → Regs
+regsResponded Stay r = r
+regsResponded (Reply bytes) r = replied bytes r
+regsResponded (ReplyIfNone bytes) r = ifUnread (ltb (r .place) (r .fill)) bytes r
+regsResponded Seeking r = replied [] (sought Running r)
+regsResponded (Interrupt c) r = interruptedBy c r (r .drive .seek)
+regsResponded (Serve bytes reply) r = replied reply (regsWithUnread 0 (length bytes) (r .lost) r)
 
 -- ---- A whole effect: the answer with the registers; a refusal leaves them as they came
 
 unfoldable pub regsOf : Result Effect → Regs → Written
-regsOf (refused why) r = record { done = finished.Refused why; regs = r }
-regsOf (good e) r = record { done = finished.Good; regs = regsShifted (e .shift) (regsAll (e .changes) r) }
+regsOf (refused why) r = declined why r
+regsOf (good e) r = accepted (regsResponded (e .response) (regsAll (e .changes) r))
 
 -- an answer, or where it refuses the refusal with the registers as they came
-abbrev pub keptIf : Finished → Written → Regs → Written
-keptIf finished.Good a r = a
-keptIf (finished.Refused why) a r = record { done = finished.Refused why; regs = r }
+abbrev pub keptIf : Receipt → Written → Regs → Written
+keptIf receipt.Good a r = a
+keptIf (receipt.Refused why) a r = declined why r
 
 abbrev pub kept : Regs → Written → Written
-kept r a = keptIf (a .done) a r
+kept r a = keptIf (a .receipt) a r

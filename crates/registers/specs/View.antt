@@ -1,18 +1,18 @@
 -- The controller's numbers and the lent buffers, seen as boxes; and the numbers that no controller has.
-use Prim.Native.Nat.{ℕ, _%_}
+use Prim.Native.Nat.{ℕ}
 use mathlib.Core.Bool.{Bool, true, false, not, _||_, _&&_}
 use mathlib.Core.List.{List}
 use mathlib.Core.Option.{Option, none, some}
 use lib.ListN.{getD, take}
 use lib.Seq.{slice}
-use lib.Dec.{eqb, ltb, leb}
+use lib.Dec.{ltb, leb}
 use Rattle.fields.specs.Refusals.{Result}
 use Rattle.fields.specs.Model.{sizeOf, Disk}
 use Rattle.store.specs.Store.{roomOf, diskOf, transferRoom}
 use Rattle.registers.specs.declared.regs.Regs.{Regs}
 use Rattle.registers.specs.declared.regs.Pending.{Pending}
-use Rattle.registers.specs.Boxes.{Setting, Slot, Empty, Holds, Writing, Inside, Front, World}
-use Rattle.kinds.specs.Table.{kindOf, bytesFor}
+use Rattle.registers.specs.Boxes.{Setting, Slot, Empty, Holds, Drives, Writing, Inside, Front, World, fitted, Named, named}
+use Rattle.codes.specs.Table.{commandOf, bytesFor}
 
 -- ---- The boxes
 
@@ -28,19 +28,32 @@ slotIf false disk = Empty
 abbrev pub slotOf : Regs → List ℕ → List ℕ → Slot
 slotOf r t b = slotIf (r .drive .disk) (diskOf t b)
 
--- the write that is in progress, if the flag says that one is
+-- the drives: their numbers, and what is in them
+abbrev pub drivesWith : Regs → Slot → Drives
+drivesWith r slot = record { first = record { cylinder = r .drive .cylinder; slot = slot } }
+
+abbrev pub drivesOf : Regs → List ℕ → List ℕ → Drives
+drivesOf r t b = drivesWith r (slotOf r t b)
+
+-- the drive that c1 names
+abbrev pub namedIn : ℕ → Regs → List ℕ → List ℕ → Named
+namedIn c1 r t b = named c1 (drivesOf r t b)
+
+-- a write, and the one that is in progress, if the flag says that one is
+abbrev pub writingOf : Pending → List ℕ → Writing
+writingOf p held = record { c1 = p .c1; id = p .id; held = held }
+
 abbrev pub writingIf : Bool → Pending → List ℕ → Option Writing
-writingIf true p h = some record { unit = p .c1; id = p .id; held = take (p .taken) h }
+writingIf true p h = some (writingOf p (take (p .taken) h))
 writingIf false p h = none
 
 unfoldable pub insideOf : Regs → List ℕ → Slot → Inside
 insideOf r h slot = record {
   motor = r .motor;
-  cylinder = r .drive .cylinder;
   index = r .index;
   command = take (r .count) (r .command);
   write = writingIf (r .write .on) (r .write) h;
-  slot = slot;
+  drives = drivesWith r slot;
 }
 
 unfoldable pub frontOf : Regs → List ℕ → Front
@@ -59,7 +72,7 @@ worldOf r h t b x = record { inside = insideOf r h (slotOf r t b); front = front
 
 -- a write in progress: its fill not below its sector size, or a c1 that names a drive other than 0
 abbrev pub wrongWrite : Pending → Bool
-wrongWrite p = p .on && (leb (sizeOf (p .id .n)) (p .taken) || not (eqb (p .c1 % 4) 0))
+wrongWrite p = p .on && (leb (sizeOf (p .id .n)) (p .taken) || not (fitted (p .c1)))
 
 -- controller numbers are impossible: read place past fill, reply over 7 bytes, command not shorter than its length, lost count over 2, or the write
 unfoldable pub impossible : Regs → Bool
@@ -67,7 +80,7 @@ impossible r =
     ltb (r .fill) (r .place)
     || (ltb (r .until) (r .from)
     || (ltb 7 (r .fill)
-    || (leb (bytesFor (kindOf (getD (r .command) 0 0))) (r .count)
+    || (leb (bytesFor (commandOf (getD (r .command) 0 0))) (r .count)
     || (ltb 2 (r .lost)
     || wrongWrite (r .write)))))
 

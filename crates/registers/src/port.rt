@@ -4,10 +4,11 @@ use crate::regs::Drive;
 use crate::regs::Flag;
 use crate::regs::Regs;
 use crate::regs::Seek;
+use crate::regs::Switched;
 use crate::regs::Told;
-use crate::regs::Written;
+use codes::MainReg;
 use fields::Refusal;
-use kinds::MainReg;
+use store::Done;
 use store::transfer_room;
 ghost use mathlib.Core.Path.{_≡_};
 ghost use Prim.Native.Nat.{_<_, _≤_};
@@ -16,7 +17,7 @@ ghost use Rattle.store.specs.Store.{transferRoom};
 ghost use Rattle.registers.specs.Ports.{phase, seekBit, settled, pollBy};
 ghost use Rattle.registers.specs.View.{impossibleIn};
 ghost use Rattle.registers.specs.Settle.{sought};
-ghost use Rattle.registers.specs.Calls.{statusOf, regsPolled, afterStatusOf, statusRead, dataRead, motorSet, diskSet, motorOf, trackOf, diskIn};
+ghost use Rattle.registers.specs.Calls.{statusOf, regsPolled, afterStatusOf, statusRead, dataRead, motorSet, diskSet, motorOf, currentTrack, diskIn};
 
 impl Seek {
     fn bit(self) -> u8
@@ -141,14 +142,20 @@ impl Regs {
         }
     }
 
-    pub fn set_motor(mut self, motor: bool) -> Written
+    pub fn set_motor(mut self, motor: bool) -> Switched
         ensures { λ r. ⌜ r ≡ motorSet motor self ⌝ }
     {
         if self.impossible() {
-            return self.refused(Refusal::BadController);
+            return Switched {
+                done: Done::Refused(Refusal::BadController),
+                regs: self,
+            };
         }
         self.motor = motor;
-        self.done()
+        Switched {
+            done: Done::Good,
+            regs: self,
+        }
     }
 
     pub fn motor(self) -> Flag
@@ -161,7 +168,7 @@ impl Regs {
     }
 
     pub fn current_track(self) -> Byte
-        ensures { λ r. ⌜ r ≡ trackOf self ⌝ }
+        ensures { λ r. ⌜ r ≡ currentTrack self ⌝ }
     {
         if self.impossible() {
             return Byte::Refused(Refusal::BadController);
@@ -179,11 +186,14 @@ impl Regs {
     }
 
     // Another disk, or none: all else is carried over.
-    pub fn set_disk(mut self, present: bool) -> Written
+    pub fn set_disk(mut self, present: bool) -> Switched
         ensures { λ r. ⌜ r ≡ diskSet present self ⌝ }
     {
         if self.impossible() {
-            return self.refused(Refusal::BadController);
+            return Switched {
+                done: Done::Refused(Refusal::BadController),
+                regs: self,
+            };
         }
         let d = self.drive;
         let seek = d.seek;
@@ -193,6 +203,9 @@ impl Regs {
             disk: present,
         };
         self.drive = drive;
-        self.done()
+        Switched {
+            done: Done::Good,
+            regs: self,
+        }
     }
 }

@@ -1,18 +1,20 @@
 // The controller's numbers, without the bytes of an unfinished write, and the changes that they go through.
+use codes::bytes_for;
+use codes::command_of;
+use codes::drive_of;
 use fields::Refusal;
 use fields::SectorId;
-use kinds::bytes_for;
-use kinds::kind_of;
 use store::Done;
 ghost use mathlib.Core.Path.{_≡_};
 ghost use mathlib.Core.List.{_∷_, []};
 ghost use Prim.Native.Nat.{_<_};
 ghost use lib.ListN.{getD};
 ghost use lib.Dec.{leb};
-ghost use Rattle.kinds.specs.Table.{kindOf, bytesFor};
-ghost use Rattle.registers.specs.Boxes.{Add, Hold, Clear, Turn, Start, Finish, MoveTo};
+ghost use Rattle.fields.specs.Capacities.{mostHeld};
+ghost use Rattle.codes.specs.Table.{commandOf, bytesFor};
+ghost use Rattle.registers.specs.Boxes.{fitted, seven, Add, Hold, Clear, Turn, Start, Finish, MoveTo};
 ghost use Rattle.registers.specs.View.{impossible, wrongWrite};
-ghost use Rattle.registers.specs.Settle.{replied, sought, withDrive, regsTaken, regsChanged, kept};
+ghost use Rattle.registers.specs.Settle.{accepted, declined, driveNamed, replied, regsWithDrive, regsTaken, regsChanged, kept};
 
 // The state of the last seek.
 pub enum Seek {
@@ -21,7 +23,7 @@ pub enum Seek {
     Done,
 }
 
-// The drive: the cylinder that the head is over, the state of its last seek, and whether a disk is in it.
+// A drive: the cylinder that its head is over, the state of its last seek, and whether a disk is in it.
 pub struct Drive {
     pub cylinder: u8,
     pub seek: Seek,
@@ -71,22 +73,41 @@ pub struct Told {
     pub regs: Regs,
 }
 
-// What a sent byte or a change answers, with the registers then.
+// What the host gets for a byte that it sent: it was taken, or why it was not.
+pub enum Receipt {
+    Good,
+    Refused(Refusal),
+}
+
+// What a byte sent answers, with the registers then.
 pub struct Written {
+    pub receipt: Receipt,
+    pub regs: Regs,
+}
+
+// What a change of motor or disk answers, with the registers then.
+pub struct Switched {
     pub done: Done,
     pub regs: Regs,
+}
+
+// Whether a command names a drive that is fitted: drive 0.
+pub fn fitted(c1: u8) -> bool
+    ensures { λ r. ⌜ r ≡ fitted c1 ⌝ }
+{
+    drive_of(c1) == 0
 }
 
 impl Regs {
     // Whether as much was sent as the command has, or more. Where nothing was sent, no table is asked.
     fn oversent(self) -> bool
-        ensures { λ r. ⌜ r ≡ leb (bytesFor (kindOf (getD (self .command) 0 0))) (self .count) ⌝ }
+        ensures { λ r. ⌜ r ≡ leb (bytesFor (commandOf (getD (self .command) 0 0))) (self .count) ⌝ }
     {
         if self.count == 0 {
             return false;
         }
         let command = self.command;
-        bytes_for(kind_of(command[0])) <= self.count
+        bytes_for(command_of(command[0])) <= self.count
     }
 
     // Numbers that no write in progress has.
@@ -99,7 +120,7 @@ impl Regs {
         if self.write.id.len() <= self.write.taken as usize {
             return true;
         }
-        self.write.c1 % 4 != 0
+        !fitted(self.write.c1)
     }
 
     // Numbers that no controller has.
@@ -124,20 +145,22 @@ impl Regs {
         self.wrong_write()
     }
 
+    // The byte was taken.
     pub fn done(self) -> Written
-        ensures { λ r. ⌜ r ≡ record { done = Done.Good; regs = self } ⌝ }
+        ensures { λ r. ⌜ r ≡ accepted self ⌝ }
     {
         Written {
-            done: Done::Good,
+            receipt: Receipt::Good,
             regs: self,
         }
     }
 
+    // The byte was not taken.
     pub fn refused(self, why: Refusal) -> Written
-        ensures { λ r. ⌜ r ≡ record { done = Done.Refused why; regs = self } ⌝ }
+        ensures { λ r. ⌜ r ≡ declined why self ⌝ }
     {
         Written {
-            done: Done::Refused(why),
+            receipt: Receipt::Refused(why),
             regs: self,
         }
     }
@@ -146,10 +169,26 @@ impl Regs {
     pub fn kept(self, a: Written) -> Written
         ensures { λ r. ⌜ r ≡ kept self a ⌝ }
     {
-        let done = a.done;
-        match done {
-            Done::Good => a,
-            Done::Refused(why) => self.refused(why),
+        let receipt = a.receipt;
+        match receipt {
+            Receipt::Good => a,
+            Receipt::Refused(why) => self.refused(why),
+        }
+    }
+
+    // The drive that a command names. One that is not fitted has no disk in, and shows the cylinder of drive 0.
+    pub fn named(self, c1: u8) -> Drive
+        ensures { λ r. ⌜ r ≡ driveNamed c1 self ⌝ }
+    {
+        let d = self.drive;
+        if fitted(c1) {
+            return d;
+        }
+        let seek = d.seek;
+        Drive {
+            cylinder: d.cylinder,
+            seek,
+            disk: false,
         }
     }
 
@@ -168,7 +207,7 @@ impl Regs {
 
     // One more byte of a write is held.
     pub fn holds(mut self, b: u8) -> Self
-        requires { ⌜ self .write .taken < 1024 ⌝ }
+        requires { ⌜ self .write .taken < mostHeld ⌝ }
         ensures { λ r. ⌜ r ≡ regsTaken (Hold b) self ⌝ }
     {
         let p = self.write;
@@ -227,7 +266,7 @@ impl Regs {
 
     // The head over a cylinder, and a seek state.
     pub fn moved(mut self, cylinder: u8, seek: Seek) -> Self
-        ensures { λ r. ⌜ r ≡ withDrive (record { cylinder = cylinder; seek = seek; disk = self .drive .disk }) self ⌝ }
+        ensures { λ r. ⌜ r ≡ regsWithDrive (record { cylinder = cylinder; seek = seek; disk = self .drive .disk }) self ⌝ }
     {
         let drive = Drive {
             cylinder,
@@ -238,40 +277,40 @@ impl Regs {
         self
     }
 
-    pub fn reply0(mut self) -> Written
-        ensures { λ r. ⌜ r ≡ record { done = Done.Good; regs = replied [] self } ⌝ }
+    // A reply of no bytes, of one, of two, and of seven: st0, st1, st2 and four more.
+    pub fn reply0(mut self) -> Self
+        ensures { λ r. ⌜ r ≡ replied [] self ⌝ }
     {
         self.reply = [0, 0, 0, 0, 0, 0, 0];
         self.place = 0;
         self.fill = 0;
-        self.done()
+        self
     }
 
-    pub fn reply1(mut self, a: u8) -> Written
-        ensures { λ r. ⌜ r ≡ record { done = Done.Good; regs = replied (a ∷ []) self } ⌝ }
+    pub fn reply1(mut self, a: u8) -> Self
+        ensures { λ r. ⌜ r ≡ replied (a ∷ []) self ⌝ }
     {
         self.reply = [a, 0, 0, 0, 0, 0, 0];
         self.place = 0;
         self.fill = 1;
-        self.done()
+        self
     }
 
-    pub fn reply2(mut self, a: u8, b: u8) -> Written
-        ensures { λ r. ⌜ r ≡ record { done = Done.Good; regs = replied (a ∷ b ∷ []) self } ⌝ }
+    pub fn reply2(mut self, a: u8, b: u8) -> Self
+        ensures { λ r. ⌜ r ≡ replied (a ∷ b ∷ []) self ⌝ }
     {
         self.reply = [a, b, 0, 0, 0, 0, 0];
         self.place = 0;
         self.fill = 2;
-        self.done()
+        self
     }
 
-    // st0, st1, st2 and four more.
-    pub fn reply7(mut self, st0: u8, st1: u8, st2: u8, id: SectorId) -> Written
-        ensures { λ r. ⌜ r ≡ record { done = Done.Good; regs = replied (st0 ∷ st1 ∷ st2 ∷ id .c ∷ id .h ∷ id .r ∷ id .n ∷ []) self } ⌝ }
+    pub fn reply7(mut self, st0: u8, st1: u8, st2: u8, id: SectorId) -> Self
+        ensures { λ r. ⌜ r ≡ replied (seven st0 st1 st2 id) self ⌝ }
     {
         self.reply = [st0, st1, st2, id.c, id.h, id.r, id.n];
         self.place = 0;
         self.fill = 7;
-        self.done()
+        self
     }
 }

@@ -3,24 +3,30 @@ ghost use mathlib.Core.Path.{_≡_};
 ghost use Prim.Native.Nat.{_+_, _*_, _<_, _≤_};
 ghost use lib.ListN.{length};
 ghost use Rattle.fields.specs.Bytes.{byteAt};
-ghost use Rattle.store.specs.Spots.{surveyOf};
-ghost use Rattle.replay.specs.Answers.{checkFrom, heldIn, numberIn, Fits, Held};
+ghost use Rattle.fields.specs.Capacities.{mostData};
+ghost use Rattle.store.specs.Spots.{tallyOf};
+ghost use Rattle.store.specs.Store.{tableLength};
+ghost use Rattle.replay.specs.Answers.{checkFrom, checkWith, heldIn, numberIn, Fits, BlockFits, RecordFits};
 use fields::SectorId;
 use libc::STDIN_FILENO;
 use libc::STDOUT_FILENO;
 use tracks::Row;
 
-// Past the rows of any table.
-const ROWS_END: usize = 17609;
-
 // How much a disk holds.
-pub struct Totals {
+pub struct Amount {
     pub tracks: usize,
     pub sectors: usize,
     pub bytes: usize,
 }
 
-// What stands next in a list: how long the record's name and its image are.
+// What stands next in a list: no length, a length and fewer bytes or more than there is room for, or so many bytes.
+pub enum Block {
+    End,
+    Broken,
+    Whole(usize),
+}
+
+// A record of a list: how long its name and its image are.
 pub enum Record {
     End,
     Broken,
@@ -42,15 +48,22 @@ pub fn refused(why: fields::Refusal) {
     put(b"\n");
 }
 
+// The check number of bytes and of one more.
+pub fn check_with(h: u32, b: u8) -> u32
+    ensures { λ r. ⌜ r ≡ checkWith h b ⌝ }
+{
+    let wide = h as u64 * 16777619 + b as u64;
+    (wide % 4294967291) as u32
+}
+
 // A number that tells one list of bytes from another.
-pub fn check_of(bytes: &[u8]) -> u64
+pub fn check_of(bytes: &[u8]) -> u32
     ensures { λ r. ⌜ r ≡ checkFrom 0 (now (bytes .entry)) ⌝ }
 {
-    let mut h: u64 = 0;
+    let mut h: u32 = 0;
     let mut i = 0;
     while i < bytes.len() {
-        let b = fields::byte(bytes, i) as u64;
-        h = (h * 16777619 + b) % 4294967291;
+        h = check_with(h, bytes[i]);
         i += 1;
     }
     h
@@ -58,7 +71,7 @@ pub fn check_of(bytes: &[u8]) -> u64
 
 pub fn show_content(content: &[u8]) {
     field(content.len() as u64);
-    field(check_of(content));
+    field(check_of(content) as u64);
     put(b"\n");
 }
 
@@ -88,7 +101,7 @@ pub fn byte(table: &[u8], at: usize) -> u64
 
 // The track at a place of the table.
 fn show_track(table: &[u8], at: usize)
-    requires { ⌜ at < 17609 ⌝ }
+    requires { ⌜ at < tableLength ⌝ }
 {
     put(b"track");
     field(byte(table, at));
@@ -123,7 +136,7 @@ pub fn show_tracks(table: &[u8], bytes: &[u8]) {
     let mut at: usize = 1;
     let mut place: usize = 0;
     while 0 < left {
-        if ROWS_END <= at {
+        if store::TABLE <= at {
             return;
         }
         let count = fields::byte(table, at + 5);
@@ -135,21 +148,21 @@ pub fn show_tracks(table: &[u8], bytes: &[u8]) {
 }
 
 // How much the disk of a table holds; nothing where the table breaks the layout.
-pub fn measure(table: &[u8]) -> Totals
-    ensures { λ r. ⌜ r ≡ heldIn (surveyOf (now (table .entry)) 1048576) (byteAt (now (table .entry)) 0) ⌝ }
+pub fn measure(table: &[u8]) -> Amount
+    ensures { λ r. ⌜ r ≡ heldIn (tallyOf (now (table .entry)) mostData) (byteAt (now (table .entry)) 0) ⌝ }
 {
     let tracks = fields::byte(table, 0);
-    match store::survey(table, store::ROOM) {
-        store::Totals::Bad => Totals {
+    match store::tally(table, fields::DATA) {
+        store::Tallied::Bad => Amount {
             tracks: 0,
             sectors: 0,
             bytes: 0,
         },
-        store::Totals::Good {
+        store::Tallied::Good {
             sectors,
             bytes,
             end: _,
-        } => Totals {
+        } => Amount {
             tracks,
             sectors,
             bytes,
@@ -187,25 +200,34 @@ pub fn take(buf: &mut [u8], n: usize) -> bool
     io::read_full(STDIN_FILENO, &mut buf[..n]) == n
 }
 
-// Takes a record that begins with a name and an image, and leaves both in their buffers.
-pub fn take_record(name: &mut [u8], image: &mut [u8]) -> Record
-    ensures { λ r. ⌜ Held r (length (now (name .entry))) (length (now (image .entry))) ⌝ }
+// Takes a block to the front of a buffer: its length in so many bytes, the lowest first, and that many bytes.
+pub fn take_block(width: usize, buf: &mut [u8]) -> Block
+    ensures { λ r. ⌜ BlockFits r (length (now (buf .entry))) ⌝ }
 {
     let mut small = [0u8; 4];
     let four: &mut [u8] = &mut small;
-    if !take(four, 1) {
-        return Record::End;
+    if !take(four, width) {
+        return Block::End;
     }
-    let letters = number(four, 0) % 256;
-    if !take(name, letters) {
-        return Record::Broken;
+    let count = number(four, 0);
+    if !take(buf, count) {
+        return Block::Broken;
     }
-    if !take(four, 4) {
-        return Record::Broken;
+    Block::Whole(count)
+}
+
+// Takes a record that begins with a name and an image, and leaves both in their buffers.
+pub fn take_record(name: &mut [u8], image: &mut [u8]) -> Record
+    ensures { λ r. ⌜ RecordFits r (length (now (name .entry))) (length (now (image .entry))) ⌝ }
+{
+    match take_block(1, name) {
+        Block::End => Record::End,
+        Block::Broken => Record::Broken,
+        Block::Whole(letters) => {
+            let Block::Whole(len) = take_block(4, image) else {
+                return Record::Broken;
+            };
+            Record::Whole { letters, len }
+        }
     }
-    let len = number(four, 0);
-    if !take(image, len) {
-        return Record::Broken;
-    }
-    Record::Whole { letters, len }
 }

@@ -8,6 +8,7 @@ use lib.ListN.{length}
 use borrow.Author.Tests.{le-ltb}
 use Rattle.fields.specs.Refusals.{Result, refused, good, after}
 use Rattle.fields.specs.declared.refusal.Refusal.the-variants.{BadController}
+use Rattle.fields.proofs.Tests.{never}
 use Rattle.store.specs.Store.{transferRoom}
 use Rattle.registers.specs.declared.regs.Regs.{Regs}
 use Rattle.registers.specs.declared.regs.Told.{Told}
@@ -15,7 +16,7 @@ use Rattle.registers.specs.declared.regs.Byte.the-variants as byte
 use Rattle.registers.specs.Boxes.{Setting, Inside, World, Sent}
 use Rattle.registers.specs.Ports.{Poll, Stays, Counts, Drops, settled, status, afterStatus, Source, Bytes, Replies, Neither, portByte, afterRead}
 use Rattle.registers.specs.View.{slotOf, insideOf, impossible, impossibleIn}
-use Rattle.registers.specs.Settle.{sought, regsTaken, heldTaken, regsAll, regsShifted, regsOf}
+use Rattle.registers.specs.Settle.{sought, regsTaken, heldTaken, regsAll, regsResponded, regsOf}
 use Rattle.registers.specs.Calls.{statusOf, regsPolled, afterStatusOf, toldIf, statusRead, sourceOf, byteFrom, regsRead, dataRead}
 use Rattle.registers.proofs.Numbers.{possible, possible-in, until-in}
 use Rattle.registers.proofs.Seen.{status-seen, read-seen}
@@ -48,7 +49,7 @@ record Rest (a : Answer) (z : Result Called) (q : Called) : Type 0 where
   pub is : q ≡ record { answers = a ∷ rest .answers; host = rest .host }
 
 told-rest : (a : Answer) (z : Result Called) (q : Called) → telling a z ≡ good q → Rest a z q
-told-rest a (refused why) q e = let z : _≡_ {A = ℕ} 0 1 = cc in absurd (omega arith)
+told-rest a (refused why) q e = never (cc)
 told-rest a (good c) q e = let z : record { answers = a ∷ c .answers; host = c .host } ≡ q = cc in record { rest = c; was = refl; is = sym z }
 
 -- where a run ends
@@ -111,7 +112,7 @@ module _ (es : List Event) (ih : Goes es) (k : Host) (q : Called) (w : Fit k) wh
   unfolding calls
   status-goes true e c =
       let y : Polled (StatusAs true) ≡ good q = sym (ap Polled (status-as true e)) ∙ c in
-      let z : _≡_ {A = ℕ} 0 1 = cc in absurd (omega arith)
+      never (cc)
   status-goes false e c = status-on e (sym (ap Polled (status-as false e)) ∙ c)
 
   -- ---- Data-port read
@@ -151,7 +152,7 @@ module _ (es : List Event) (ih : Goes es) (k : Host) (q : Called) (w : Fit k) wh
   unfolding calls
   read-goes true e c =
       let y : Given (ReadAs true) ≡ good q = sym (ap Given (read-as true e)) ∙ c in
-      let z : _≡_ {A = ℕ} 0 1 = cc in absurd (omega arith)
+      never (cc)
   read-goes false e c = read-on e (sym (ap Given (read-as false e)) ∙ c)
 
   -- ---- A byte sent
@@ -169,12 +170,12 @@ module _ (es : List Event) (ih : Goes es) (k : Host) (q : Called) (w : Fit k) wh
   abbrev Then : Sent → Host
   Then y = record {
     floppy = record {
-      regs = regsShifted (y .effect .shift) (regsAll (y .effect .changes) (regsTaken (y .taking) R));
+      regs = regsResponded (y .effect .response) (regsAll (y .effect .changes) (regsTaken (y .taking) R));
       held = heldTaken (y .taking) R (k .floppy .held);
     };
     table = tableWith (y .effect .put) (k .table);
     bytes = dataWith (y .effect .put) (k .bytes);
-    transfer = transferWith (y .effect .shift) (k .transfer);
+    transfer = transferWith (y .effect .response) (k .transfer);
   }
 
   module _ (b : ℕ) (ok : impossibleIn (k .transfer) R ≡ false) where
@@ -201,18 +202,18 @@ module _ (es : List Event) (ih : Goes es) (k : Host) (q : Called) (w : Fit k) wh
     -- the rooms are those that were lent
     then-lent : (y : Sent) → Rooms (lent k) (good y) → lent (Then y) ≡ lent k
     then-lent y q =
-        ap₂ {C = Setting} (λ (n m : ℕ). record { room = n; transfer = m }) (room-kept (k .bytes) (k .transfer) (y .effect .put) (q .1)) (transfer-kept (k .bytes) (k .transfer) (y .effect .shift) (q .0))
+        ap₂ {C = Setting} (λ (n m : ℕ). record { room = n; transfer = m }) (room-kept (k .bytes) (k .transfer) (y .effect .put) (q .1)) (transfer-kept (k .bytes) (k .transfer) (y .effect .response) (q .0))
 
     then-fit : (y : Sent) → Rooms (lent k) (good y) → Fit (Then y)
     then-fit y q =
-        subst (λ (n : ℕ). Whole (Then y .floppy .regs) (Then y .floppy .held) n) (sym (transfer-kept (k .bytes) (k .transfer) (y .effect .shift) (q .0)))
+        subst (λ (n : ℕ). Whole (Then y .floppy .regs) (Then y .floppy .held) n) (sym (transfer-kept (k .bytes) (k .transfer) (y .effect .response) (q .0)))
         (whole-sent (lent k) y R (k .floppy .held) (q .0) w)
 
     send-on : (y : Result Sent) → sent (lent k) I b ≡ y → calls (send b ∷ es) k ≡ good q → Runs (send b ∷ es) k q
     unfolding calls play leftOf regsOf
     send-on (refused why) e c =
         let z : WroteThen (LeftAs (refused why)) ≡ good q = sym (ap WroteThen (write-as (refused why) e)) ∙ c in
-        let n : _≡_ {A = ℕ} 0 1 = cc in absurd (omega arith)
+        never (cc)
     send-on (good y) e c =
         let z : WroteThen (LeftAs (good y)) ≡ good q = sym (ap WroteThen (write-as (good y) e)) ∙ c in
         let rooms : Rooms (lent k) (good y) = subst (Rooms (lent k)) e (sent-room (lent k) I b) in
@@ -228,7 +229,7 @@ module _ (es : List Event) (ih : Goes es) (k : Host) (q : Called) (w : Fit k) wh
   unfolding calls
   send-goes b true e c =
       let y : refused BadController ≡ good q = sym (ap WroteThen (write-refused R b (k .floppy .held) (k .table) (k .bytes) (k .transfer) e)) ∙ c in
-      let z : _≡_ {A = ℕ} 0 1 = cc in absurd (omega arith)
+      never (cc)
   send-goes b false e c = send-on b e (sent (lent k) I b) refl c
 
 -- A sequence of calls that is not refused answers what the machine's run answers, and leaves what it leaves.

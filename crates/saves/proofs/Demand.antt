@@ -1,6 +1,6 @@
 -- Demand 3, on the machine: what saves leave on the disk.
 use mathlib.Core.Path.{_≡_, refl, sym, ap, _∙_}
-use Prim.Native.Nat.{ℕ, _%_}
+use Prim.Native.Nat.{ℕ}
 use native.Mathlib.Omega.{arith}
 use mathlib.Core.Bool.{Bool, true, false}
 use mathlib.Core.List.{List, [], _∷_}
@@ -13,92 +13,97 @@ use Rattle.fields.specs.declared.id.SectorId.{SectorId}
 use Rattle.fields.specs.declared.refusal.Refusal.{Refusal}
 use Rattle.fields.specs.declared.refusal.Refusal.the-variants.{NoRoom}
 use Rattle.fields.proofs.Sizes.{size-pos}
+use Rattle.fields.proofs.Tests.{never}
 use Rattle.store.specs.Find.{found}
 use Rattle.store.specs.Search.{sectorAt}
 use Rattle.disk.specs.Change.{withContent, saved}
-use Rattle.kinds.specs.declared.kind.Kind.the-variants.{SeekTo, WriteData}
-use Rattle.registers.specs.Boxes.{Setting, Slot, Holds, Inside, World, Finish, changed, allChanged, putIn}
-use Rattle.kinds.specs.Table.{kindOf, kindBy, rows}
-use Rattle.commands.specs.Commands.{driveOf, headOf, named, puts, seekIf, startAt, writeData, writeReply, saveAt, written, obeyed}
+use Rattle.codes.specs.declared.command.Command.the-variants.{SeekTo, WriteData}
+use Rattle.registers.specs.Boxes.{Setting, Holds, Inside, World, named, Finish, changed, allChanged, putIn}
+use Rattle.codes.specs.Table.{commandOf, commandBy, rows}
+use Rattle.codes.specs.Second.{driveOf, headOf}
+use Rattle.commands.specs.Commands.{puts, seekIf, startAt, writeData, writeReply, saveAt, written, obeyed}
 use Rattle.saves.specs.Events.{Event, Played, play, sentIn}
-use Rattle.saves.specs.Words.{Ready, Address, Save, bytesOf, addressOf, IsSave, savedAt, savedBy}
+use Rattle.saves.specs.Words.{inDrive, Ready, Address, Save, bytesOf, addressOf, IsSave, savedAt, savedBy}
 use Rattle.saves.proofs.Finds.{mapFound}
 use Rattle.saves.proofs.Places.{at, save-twice, save-found, save-other, save-comm, Only, save-only}
-use Rattle.saves.proofs.Feeding.{effected, fed, insides, play-inside, partly, writing, command-fed, data-fed}
+use Rattle.saves.proofs.Feeding.{effected, fed, insides, play-inside, driveOver, partly, writing, Written, command-fed, data-fed}
 
 -- ---- the three parts of a save
 
-drive-0 : (unit : ℕ) (slot : Slot) → driveOf unit ≡ 0 → named unit slot ≡ slot
-drive-0 unit slot e = rw (eq-eqb (unit % 4) 0 e)
+pub drive-0 : (c1 c : ℕ) (d : Disk) → driveOf c1 ≡ 0 → named c1 (driveOver c d) ≡ record { fitted = true; cylinder = c; slot = Holds (good d) }
+unfolding named
+drive-0 c1 c d e = rw (eq-eqb (driveOf c1) 0 e)
 
 module _ (s : Setting) (m : Bool) (x : ℕ) (d : Disk) where
-  seek-fed : (c unit cylinder : ℕ) (bs : List ℕ) → driveOf unit ≡ 0 → fed s (0x0F ∷ unit ∷ cylinder ∷ bs) (partly m c x d []) ≡ fed s bs (partly m cylinder x d [])
-  unfolding obeyed seekIf kindOf kindBy rows changed allChanged putIn
-  seek-fed c unit cylinder bs e =
-      command-fed s m c x d 0x0F SeekTo refl unit (cylinder ∷ []) bs refl ∙ rw (eq-eqb (unit % 4) 0 e)
+  seek-fed : (c c1 cylinder : ℕ) (bs : List ℕ) → driveOf c1 ≡ 0 → fed s (0x0F ∷ c1 ∷ cylinder ∷ bs) (partly m c x d []) ≡ fed s bs (partly m cylinder x d [])
+  unfolding obeyed seekIf commandOf commandBy rows changed allChanged putIn
+  seek-fed c c1 cylinder bs e =
+      command-fed s m c x d 0x0F SeekTo refl c1 (cylinder ∷ []) bs refl ∙ rw (drive-0 c1 c d e)
 
-  write-fed : (c code unit : ℕ) (id : SectorId) (eot gap dtl : ℕ) (bs : List ℕ) (k : ℕ) (z : Sector) → kindOf code ≡ WriteData → driveOf unit ≡ 0
-      → sectorAt d (headOf unit) c id ≡ found k z
-      → fed s (code ∷ unit ∷ id .c ∷ id .h ∷ id .r ∷ id .n ∷ eot ∷ gap ∷ dtl ∷ bs) (partly m c x d []) ≡ fed s bs (writing m c x d unit id [])
+  write-fed : (c code c1 : ℕ) (id : SectorId) (eot gap dtl : ℕ) (bs : List ℕ) (k : ℕ) (z : Sector) → commandOf code ≡ WriteData → driveOf c1 ≡ 0
+      → sectorAt d (headOf c1) c id ≡ found k z
+      → fed s (code ∷ c1 ∷ id .c ∷ id .h ∷ id .r ∷ id .n ∷ eot ∷ gap ∷ dtl ∷ bs) (partly m c x d []) ≡ fed s bs (writing m c x d c1 id [])
   unfolding obeyed writeData startAt changed allChanged putIn
-  write-fed c code unit id eot gap dtl bs k z e f g =
-      command-fed s m c x d code WriteData e unit (id .c ∷ id .h ∷ id .r ∷ id .n ∷ eot ∷ gap ∷ dtl ∷ []) bs refl
-      ∙ rw (eq-eqb (unit % 4) 0 f, g)
+  write-fed c code c1 id eot gap dtl bs k z e f g =
+      command-fed s m c x d code WriteData e c1 (id .c ∷ id .h ∷ id .r ∷ id .n ∷ eot ∷ gap ∷ dtl ∷ []) bs refl
+      ∙ rw (drive-0 c1 c d f, g)
 
   -- the disk then, or 8
   abbrev After : ℕ → Disk → Result Inside
   After c new = need (leb (byteCount new) (s .room)) NoRoom (good (partly m c x new []))
 
-  written-is : (c unit : ℕ) (id : SectorId) (bytes : List ℕ) (k : ℕ) (z : Sector) → sectorAt d (headOf unit) c id ≡ found k z
-      → after (written (s .room) unit id bytes c (Holds (good d))) (λ e. good (effected e (writing m c x d unit id bytes))) ≡ After c (saved (headOf unit) c id bytes d)
+  written-is : (c c1 : ℕ) (id : SectorId) (bytes : List ℕ) (k : ℕ) (z : Sector) → driveOf c1 ≡ 0 → sectorAt d (headOf c1) c id ≡ found k z
+      → after (Written s m c x d c1 id bytes) (λ e. good (effected e (writing m c x d c1 id bytes))) ≡ After c (saved (headOf c1) c id bytes d)
   unfolding written saveAt changed allChanged putIn
-  written-is c unit id bytes k z g = rw g (go (leb (byteCount (saved (headOf unit) c id bytes d)) (s .room)))
+  written-is c c1 id bytes k z f g = rw (drive-0 c1 c d f, g) (go (leb (byteCount (saved (headOf c1) c id bytes d)) (s .room)))
     where
-      go : (v : Bool) → after (need v NoRoom (puts (Finish ∷ []) (saved (headOf unit) c id bytes d) (writeReply unit id))) (λ e. good (effected e (writing m c x d unit id bytes))) ≡ need v NoRoom (good (partly m c x (saved (headOf unit) c id bytes d) []))
+      go : (v : Bool)
+          → after (need v NoRoom (puts (Finish ∷ []) (saved (headOf c1) c id bytes d) (writeReply (record { c1 = c1; id = id; held = bytes }))))
+          (λ e. good (effected e (writing m c x d c1 id bytes)))
+          ≡ need v NoRoom (good (partly m c x (saved (headOf c1) c id bytes d) []))
       go true = refl
       go false = refl
 
-  content-fed : (c unit : ℕ) (id : SectorId) (bytes : List ℕ) (k : ℕ) (z : Sector) → length bytes ≡ sizeOf (id .n) → sectorAt d (headOf unit) c id ≡ found k z
-      → fed s bytes (writing m c x d unit id []) ≡ After c (saved (headOf unit) c id bytes d)
-  content-fed c unit id [] k z n g = absurd (omega (arith, size-pos (id .n)))
-  content-fed c unit id (b ∷ r) k z n g = data-fed s m c x d unit id [] b r (omega arith) ∙ written-is c unit id (b ∷ r) k z g
+  content-fed : (c c1 : ℕ) (id : SectorId) (bytes : List ℕ) (k : ℕ) (z : Sector) → length bytes ≡ sizeOf (id .n) → driveOf c1 ≡ 0 → sectorAt d (headOf c1) c id ≡ found k z
+      → fed s bytes (writing m c x d c1 id []) ≡ After c (saved (headOf c1) c id bytes d)
+  content-fed c c1 id [] k z n f g = absurd (omega (arith, size-pos (id .n)))
+  content-fed c c1 id (b ∷ r) k z n f g = data-fed s m c x d c1 id [] b r (omega arith) ∙ written-is c c1 id (b ∷ r) k z f g
 
   save-fed : (c : ℕ) (a : Save) → IsSave a d → fed s (bytesOf a) (partly m c x d []) ≡ After (a .cylinder) (savedBy a d)
   unfolding bytesOf addressOf savedAt
   save-fed c a h =
-      seek-fed c (a .seekUnit) (a .cylinder) _ (h .seeks-drive-0)
-      ∙ write-fed (a .cylinder) (a .code) (a .unit) (a .id) (a .eot) (a .gap) (a .dtl) (a .content) (h .place) (h .sector) (h .writes) (h .writes-drive-0) (h .there)
-      ∙ content-fed (a .cylinder) (a .unit) (a .id) (a .content) (h .place) (h .sector) (h .as-many) (h .there)
+      seek-fed c (a .seekC1) (a .cylinder) _ (h .seeks-drive-0)
+      ∙ write-fed (a .cylinder) (a .code) (a .c1) (a .id) (a .eot) (a .gap) (a .dtl) (a .content) (h .place) (h .sector) (h .writes) (h .writes-drive-0) (h .there)
+      ∙ content-fed (a .cylinder) (a .c1) (a .id) (a .content) (h .place) (h .sector) (h .as-many) (h .writes-drive-0) (h .there)
 
 need-good : {A : Type 0} (v : Bool) (why : Refusal) (a b : A) → need v why (good a) ≡ good b → b ≡ a
 need-good true why a b e = cc
-need-good false why a b e = let z : _≡_ {A = ℕ} 0 1 = cc in absurd (omega arith)
+need-good false why a b e = never (cc)
 
-ready-is : (w : World) (d : Disk) → Ready w d → w .inside ≡ partly (w .inside .motor) (w .inside .cylinder) (w .inside .index) d []
+ready-is : (w : World) (d : Disk) → Ready w d → w .inside ≡ partly (w .inside .motor) (w .inside .drives .first .cylinder) (w .inside .index) d []
 ready-is w d h k = record {
   motor = w .inside .motor;
-  cylinder = w .inside .cylinder;
   index = w .inside .index;
   command = h .nothing-sent k;
   write = h .no-write k;
-  slot = h .disk-in k;
+  drives = record { first = record { cylinder = w .inside .drives .first .cylinder; slot = h .disk-in k } };
 }
 
 -- inside, after a save: the head has moved, and the disk is the one that the save leaves
 pub saved-inside : (s : Setting) (a : Save) (d : Disk) (w : World) (es : List Event) (p : Played) → Ready w d → IsSave a d → sentIn es ≡ bytesOf a → play s es w ≡ good p
     → p .world .inside ≡ partly (w .inside .motor) (a .cylinder) (w .inside .index) (savedBy a d) []
 saved-inside s a d w es p ready save bytes ran =
-    let i : Inside = partly (w .inside .motor) (w .inside .cylinder) (w .inside .index) d [] in
+    let i : Inside = partly (w .inside .motor) (w .inside .drives .first .cylinder) (w .inside .index) d [] in
     let e : good (p .world .inside) ≡ fed s (bytesOf a) i = ap insides (sym ran) ∙ play-inside s es w ∙ ap (λ (l : List ℕ). fed s l (w .inside)) bytes ∙ ap (fed s (bytesOf a)) (ready-is w d ready) in
     need-good (leb (byteCount (savedBy a d)) (s .room)) NoRoom (partly (w .inside .motor) (a .cylinder) (w .inside .index) (savedBy a d) []) (p .world .inside)
-    (sym (e ∙ save-fed s (w .inside .motor) (w .inside .index) d (w .inside .cylinder) a save))
+    (sym (e ∙ save-fed s (w .inside .motor) (w .inside .index) d (w .inside .drives .first .cylinder) a save))
 
 -- and the next one may begin
 saved-ready : (s : Setting) (a : Save) (d : Disk) (w : World) (es : List Event) (p : Played) → Ready w d → IsSave a d → sentIn es ≡ bytesOf a → play s es w ≡ good p
     → Ready (p .world) (savedBy a d)
 saved-ready s a d w es p ready save bytes ran =
     let e = saved-inside s a d w es p ready save bytes ran in
-    record { disk-in = ap (λ (i : Inside). i .slot) e; nothing-sent = ap (λ (i : Inside). i .command) e; no-write = ap (λ (i : Inside). i .write) e }
+    record { disk-in = ap (λ (i : Inside). i .drives .first .slot) e; nothing-sent = ap (λ (i : Inside). i .command) e; no-write = ap (λ (i : Inside). i .write) e }
 
 -- ---- the demand
 
@@ -142,7 +147,7 @@ pub second-alone : (s : Setting) (a b : Save) (d : Disk) (w : World) (es fs gs :
     → sentIn es ≡ bytesOf a → play s es w ≡ good p
     → sentIn fs ≡ bytesOf b → play s fs (p .world) ≡ good q
     → sentIn gs ≡ bytesOf b → play s gs w ≡ good r
-    → q .world .inside .slot ≡ r .world .inside .slot
+    → inDrive (q .world) ≡ inDrive (r .world)
 second-alone s a b d w es fs gs p q r ready sa sb same ea ra eb rb ec rc =
     saved-ready s b (savedBy a d) (p .world) fs q (saved-ready s a d w es p ready sa ea ra) (still-same a b d same sb) eb rb .disk-in
     ∙ ap (λ (y : Disk). Holds (good y)) (ap (λ (y : Address). savedAt (addressOf b) (b .content) (savedAt y (a .content) d)) same ∙ save-twice (addressOf b) (a .content) (b .content) d)
@@ -153,7 +158,7 @@ pub either-order : (s : Setting) (a b : Save) (d : Disk) (w : World) (es fs fs�
     → Ready w d → IsSave a d → IsSave b d → (addressOf a ≡ addressOf b → ⊥)
     → sentIn es ≡ bytesOf a → play s es w ≡ good p → sentIn fs ≡ bytesOf b → play s fs (p .world) ≡ good q
     → sentIn fs′ ≡ bytesOf b → play s fs′ w ≡ good p′ → sentIn es′ ≡ bytesOf a → play s es′ (p′ .world) ≡ good q′
-    → q .world .inside .slot ≡ q′ .world .inside .slot
+    → inDrive (q .world) ≡ inDrive (q′ .world)
 either-order s a b d w es fs fs′ es′ p q p′ q′ ready sa sb differ ea ra eb rb eb′ rb′ ea′ ra′ =
     saved-ready s b (savedBy a d) (p .world) fs q (saved-ready s a d w es p ready sa ea ra) (still-other a b d differ sb) eb rb .disk-in
     ∙ ap (λ (y : Disk). Holds (good y)) (save-comm (addressOf a) (addressOf b) differ (a .content) (b .content) d)

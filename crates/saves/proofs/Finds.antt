@@ -4,6 +4,7 @@ use Prim.Native.Nat.{ℕ, _+_}
 use native.Mathlib.Omega.{arith}
 use mathlib.Core.Bool.{Bool, true, false}
 use mathlib.Core.List.{List, [], _∷_, _++_}
+use Rattle.fields.proofs.Tests.{never}
 use Rattle.store.specs.Find.{Found, nothing, found, findFrom}
 use Rattle.disk.specs.Change.{change}
 
@@ -91,7 +92,7 @@ module _ {A : Type 0} where
 
     pub changed-one : (n : ℕ) (xs : List A) → findFrom n p xs ≡ found k x → Changed n xs
     unfolding findFrom change
-    changed-one n [] e = let z : _≡_ {A = ℕ} 0 1 = cc in absurd (omega arith)
+    changed-one n [] e = never (cc)
     changed-one n (y ∷ ys) e = go (p y) refl (changed-one (n + 1) ys)
       where
         go : (b : Bool) → p y ≡ b → (findFrom (n + 1) p ys ≡ found k x → Changed (n + 1) ys) → Changed n (y ∷ ys)

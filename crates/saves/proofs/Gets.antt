@@ -7,12 +7,13 @@ use mathlib.Core.List.{List, [], _∷_, _++_}
 use lib.ListN.{length, take}
 use Rattle.fields.specs.Refusals.{Result, refused, good, after}
 use Rattle.fields.specs.Model.{Disk}
+use Rattle.fields.proofs.Tests.{never}
 use Rattle.store.specs.Store.{diskOf}
 use Rattle.registers.specs.Boxes.{Setting, Holds, World}
 use Rattle.registers.specs.View.{slotIf, insideOf}
 use Rattle.sending.specs.Machine.{writePort}
 use Rattle.saves.specs.Events.{Event, send, took, Played, noting, play, sentIn}
-use Rattle.saves.specs.Words.{Ready, Save, bytesOf, addressOf, IsSave, savedBy, ReadsBack, readBytes, replyTo, LosesNone, dataReads, givenIn}
+use Rattle.saves.specs.Words.{inDrive, Ready, Save, bytesOf, addressOf, IsSave, savedBy, ReadsBack, readBytes, replyTo, LosesNone, dataReads, givenIn}
 use Rattle.saves.specs.Hosts.{Host, Called, calls, Sound, seen, lent}
 use Rattle.saves.proofs.Places.{Only}
 use Rattle.saves.proofs.Demand.{save-touches, still-other, second-alone, either-order}
@@ -25,9 +26,9 @@ storeOf k = diskOf (k .table) (k .bytes)
 
 held-is : (f : Bool) (disk : Result Disk) (d : Disk) → slotIf f disk ≡ Holds (good d) → disk ≡ good d
 held-is true disk d e = cc
-held-is false disk d e = let z : _≡_ {A = ℕ} 0 1 = cc in absurd (omega arith)
+held-is false disk d e = never (cc)
 
-store-is : (k : Host) (d : Disk) → seen k .inside .slot ≡ Holds (good d) → storeOf k ≡ good d
+store-is : (k : Host) (d : Disk) → inDrive (seen k) ≡ Holds (good d) → storeOf k ≡ good d
 unfolding insideOf
 store-is k d e = held-is (k .floppy .regs .drive .disk) (storeOf k) d e
 
@@ -81,24 +82,24 @@ unfolding play
 one-sent s w b p e = go (writePort s w b) e
   where
     go : (v : Result World) → after v (λ y. noting took (good (record { answers = []; world = y }))) ≡ good p → v ≡ good (p .world)
-    go (refused why) e = let z : _≡_ {A = ℕ} 0 1 = cc in absurd (omega arith)
+    go (refused why) e = never (cc)
     go (good y) e = let z : record { answers = took ∷ []; world = y } ≡ p = cc in ap (λ (v : Played). good (v .world)) z
 
 -- A Read Data of the saved sector alone, sent next, hands out the save's bytes in order and then the reply, to data-port reads of which no status read loses a byte.
-pub back-calls : (a : Save) (d : Disk) (code unit eot gap dtl : ℕ) (k : Host) (es fs gs : List Event) (p q v r : Called)
+pub back-calls : (a : Save) (d : Disk) (code c1 eot gap dtl : ℕ) (k : Host) (es fs gs : List Event) (p q v r : Called)
     → Sound k → Ready (seen k) d → (save : IsSave a d) → sentIn es ≡ bytesOf a → calls es k ≡ good p
-    → ReadsBack a code unit eot → sentIn fs ≡ readBytes a code unit eot gap → calls fs (p .host) ≡ good q
+    → ReadsBack a code c1 eot → sentIn fs ≡ readBytes a code c1 eot gap → calls fs (p .host) ≡ good q
     → calls (send dtl ∷ []) (q .host) ≡ good v
     → LosesNone gs (seen (v .host)) → length (a .content) + 7 ≤ dataReads gs → calls gs (v .host) ≡ good r
-    → take (length (a .content) + 7) (givenIn (r .answers)) ≡ a .content ++ replyTo a unit eot (save .sector)
-back-calls a d code unit eot gap dtl k es fs gs p q v r sound ready save ea ra back eb rb rl none-lost enough rg =
+    → take (length (a .content) + 7) (givenIn (r .answers)) ≡ a .content ++ replyTo a c1 eot (save .sector)
+back-calls a d code c1 eot gap dtl k es fs gs p q v r sound ready save ea ra back eb rb rl none-lost enough rg =
     let one = calls-play es k p (sound-fit k sound) ra in
     let two = calls-play fs (p .host) q (one .1 .0) rb in
     let three = calls-play (send dtl ∷ []) (q .host) v (two .1 .0) rl in
     let four = calls-play gs (v .host) r (three .1 .0) rg in
     let l2 : lent (q .host) ≡ lent k = two .1 .1 ∙ one .1 .1 in
     let l3 : lent (v .host) ≡ lent k = three .1 .1 ∙ l2 in
-    read-back (lent k) a d code unit eot gap dtl (seen k) (seen (v .host)) es fs gs (Ends p) (Ends q) (Ends r) ready save ea (one .0) back eb
+    read-back (lent k) a d code c1 eot gap dtl (seen k) (seen (v .host)) es fs gs (Ends p) (Ends q) (Ends r) ready save ea (one .0) back eb
     (again fs k (p .host) q (one .1 .1) two)
     (one-sent (lent k) (seen (q .host)) dtl (Ends v) (again (send dtl ∷ []) k (q .host) v l2 three))
     none-lost enough

@@ -9,7 +9,7 @@ use lib.Dec.{eqb}
 use borrow.Author.Tests.{eqb-true}
 use Rattle.fields.specs.Model.{Sector, Track, Disk}
 use Rattle.fields.specs.declared.id.SectorId.{SectorId}
-use Rattle.fields.proofs.Tests.{and-fst, and-snd}
+use Rattle.fields.proofs.Tests.{never, and-fst, and-snd}
 use Rattle.store.specs.Find.{Found, nothing, found, find}
 use Rattle.store.specs.Search.{isTrack, isSector, inTrack, sectorAt}
 use Rattle.disk.specs.Change.{change, withContent, savedIn, saved}
@@ -142,7 +142,7 @@ unfolding savedAt saved sectorAt
 save-only a x k s d e = go (find (isTrack (a .side) (a .cylinder)) d) refl e
   where
     go : (o : Found Track) → find (isTrack (a .side) (a .cylinder)) d ≡ o → inTrack (a .id) o ≡ found k s → Only a x k s d (change (isTrack (a .side) (a .cylinder)) (savedIn (a .id) x) d)
-    go nothing p q = let z : _≡_ {A = ℕ} 0 1 = cc in absurd (omega arith)
+    go nothing p q = never (cc)
     go (found n t) p q =
         let u : Changed (isTrack (a .side) (a .cylinder)) (savedIn (a .id) x) n t 0 d = changed-one (isTrack (a .side) (a .cylinder)) (savedIn (a .id) x) n t 0 d p in
         let v : Changed (isSector (a .id)) (withContent x) k s 0 (t .sectors) = changed-one (isSector (a .id)) (withContent x) k s 0 (t .sectors) q in

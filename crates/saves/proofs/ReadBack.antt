@@ -1,6 +1,6 @@
 -- A Read Data after a save hands out its bytes, and then the reply.
 use mathlib.Core.Path.{_≡_, refl, sym, ap, _∙_}
-use Prim.Native.Nat.{ℕ, suc, _+_, _-_, _%_, _≤_}
+use Prim.Native.Nat.{ℕ, suc, _+_, _-_, _≤_}
 use native.Mathlib.Omega.{arith}
 use mathlib.Core.Bool.{Bool, true, false}
 use mathlib.Core.List.{List, [], _∷_, _++_, append-nil}
@@ -8,26 +8,30 @@ use mathlib.Core.Option.{none}
 use lib.ListN.{length, take}
 use lib.Dec.{leb}
 use borrow.Author.Tests.{eq-eqb}
+use Rattle.fields.specs.Bytes.{withBit}
 use Rattle.fields.specs.Refusals.{Result, refused, good, need, after}
 use Rattle.fields.specs.Model.{sizeOf, total, Sector, Track, Disk}
 use Rattle.fields.specs.declared.id.SectorId.{SectorId}
 use Rattle.fields.specs.declared.refusal.Refusal.the-variants.{NoTransferRoom}
+use Rattle.fields.proofs.Tests.{never}
 use Rattle.store.specs.Find.{Found, nothing, found, find}
 use Rattle.store.specs.Search.{isTrack, inTrack, sectorAt, joined, runFrom, readIn, readAt}
 use Rattle.store.specs.Store.{contents}
 use Rattle.disk.specs.Change.{withContent}
-use Rattle.kinds.specs.declared.kind.Kind.the-variants.{ReadData}
-use Rattle.registers.specs.Boxes.{Setting, Inside, Front, World, Add, Clear, Serve, Sent, shifted}
-use Rattle.kinds.specs.Table.{kindOf}
+use Rattle.disk.specs.Calls.{endOf}
+use Rattle.codes.specs.declared.command.Command.the-variants.{ReadData}
+use Rattle.registers.specs.Boxes.{Setting, Inside, Front, World, Add, Clear, Serve, Sent, responded}
+use Rattle.codes.specs.Table.{commandOf}
 use Rattle.registers.specs.Ports.{polled, Poll, Stays, Counts, Drops, afterStatus, given, readFrom, portByte, afterRead}
-use Rattle.commands.specs.Commands.{u, driveOf, headOf, does, withBit, endOf, markOf, sizesOf, readReply, servedAs, readData, obeyed}
+use Rattle.codes.specs.Second.{u, driveOf, headOf}
+use Rattle.commands.specs.Commands.{does, markOf, sizesOf, readReply, servedAs, readData, obeyed}
 use Rattle.sending.specs.Machine.{sends, clearing, commandIf, commandByte, byteFor, sent, done, writePort}
 use Rattle.saves.specs.Events.{Event, poll, read, send, Answer, Played, noting, play, sentIn}
 use Rattle.saves.specs.Words.{Ready, Save, bytesOf, addressOf, IsSave, savedBy, ReadsBack, readBytes, replyTo, LosesNone, dataReads, givenIn}
 use Rattle.saves.proofs.Finds.{mapFound}
 use Rattle.saves.proofs.Places.{save-found, save-only}
 use Rattle.saves.proofs.Feeding.{fed, insides, play-inside, partly, part-fed}
-use Rattle.saves.proofs.Demand.{saved-inside}
+use Rattle.saves.proofs.Demand.{drive-0, saved-inside}
 
 -- ---- what is handed out
 
@@ -53,7 +57,7 @@ reply-first w y ys e f = rw (e, f) (refl, (refl, refl))
 
 -- the calls that a run answers, one by one
 noted-good : (a : Answer) (r : Result Played) (p : Played) → noting a r ≡ good p → (q : Played) → r ≡ good q → p .answers ≡ a ∷ q .answers
-noted-good a (refused why) p e q f = let z : _≡_ {A = ℕ} 0 1 = cc in absurd (omega arith)
+noted-good a (refused why) p e q f = never (cc)
 noted-good a (good q′) p e q f =
     let z : record { answers = a ∷ q′ .answers; world = q′ .world } ≡ p = cc in
     let y : q′ ≡ q = cc in
@@ -72,7 +76,7 @@ module _ (s : Setting) where
       go : (z : Result Played) → play s es (afterStatus w) ≡ z
           → ((q : Played) → afterStatus w .front .unread ≡ xs → afterStatus w .front .reply ≡ ys → LosesNone es (afterStatus w) → length xs + length ys ≤ dataReads es → play s es (afterStatus w) ≡ good q → take (length xs + length ys) (givenIn (q .answers)) ≡ xs ++ ys)
           → take (length xs + length ys) (givenIn (p .answers)) ≡ xs ++ ys
-      go (refused why) g ih = let c : refused why ≡ good p = ap (noting _) (sym g) ∙ r in let z : _≡_ {A = ℕ} 0 1 = cc in absurd (omega arith)
+      go (refused why) g ih = let c : refused why ≡ good p = ap (noting _) (sym g) ∙ r in never (cc)
       go (good q) g ih =
           ap (λ (l : List Answer). take (length xs + length ys) (givenIn l)) (noted-good _ (play s es (afterStatus w)) p r q g)
           ∙ (ih q (h .0 ∙ e) (status-reply w ∙ f) (h .1) n g)
@@ -81,7 +85,7 @@ module _ (s : Setting) where
       go : (z : Result Played) → play s es (afterRead w) ≡ z → (xs ys : List ℕ) → w .front .unread ≡ xs → w .front .reply ≡ ys → length xs + length ys ≤ suc (dataReads es)
           → ((xs ys : List ℕ) (q : Played) → afterRead w .front .unread ≡ xs → afterRead w .front .reply ≡ ys → LosesNone es (afterRead w) → length xs + length ys ≤ dataReads es → play s es (afterRead w) ≡ good q → take (length xs + length ys) (givenIn (q .answers)) ≡ xs ++ ys)
           → take (length xs + length ys) (givenIn (p .answers)) ≡ xs ++ ys
-      go (refused why) g xs ys e f n ih = let c : refused why ≡ good p = ap (noting _) (sym g) ∙ r in let z : _≡_ {A = ℕ} 0 1 = cc in absurd (omega arith)
+      go (refused why) g xs ys e f n ih = let c : refused why ≡ good p = ap (noting _) (sym g) ∙ r in never (cc)
       go (good q) g [] [] e f n ih = refl
       go (good q) g (x ∷ xs) ys e f n ih =
           let d = data-first w x xs e in
@@ -103,7 +107,7 @@ module _ (s : Setting) where
 
 -- of a sector that is found, with eot at most its number, it alone is read
 read-one : (o : Found Track) (id : SectorId) (eot k : ℕ) (z : Sector) → inTrack id o ≡ found k z → eot ≤ id .r → readIn id eot o ≡ z ∷ []
-read-one nothing id eot k z e h = let y : _≡_ {A = ℕ} 0 1 = cc in absurd (omega arith)
+read-one nothing id eot k z e h = never (cc)
 read-one (found n t) id eot k z e h =
     let y : eot - id .r ≡ 0 = omega arith in
     ap (λ (m : ℕ). runFrom id (t .sectors) (id .r) (suc m)) y ∙ (unfold runFrom in ap (λ (v : Found Sector). joined v []) e)
@@ -112,44 +116,44 @@ read-one (found n t) id eot k z e h =
 module _ (room : ℕ) (bytes reply : List ℕ) where
   serves : (v : Bool) (w w′ : World) (b : ℕ) → after (sends (Add b) (clearing (need v NoTransferRoom (does [] (Serve bytes reply))))) (λ x. good (done w x)) ≡ good w′
       → (w′ .front .unread ≡ bytes) × (w′ .front .reply ≡ reply)
-  unfolding done shifted
-  serves true w w′ b e = let z : done w (record { taking = Add b; effect = record { changes = Clear ∷ []; shift = Serve bytes reply; put = none } }) ≡ w′ = cc in (sym (ap (λ (v : World). v .front .unread) z), sym (ap (λ (v : World). v .front .reply) z))
-  serves false w w′ b e = let z : _≡_ {A = ℕ} 0 1 = cc in absurd (omega arith)
+  unfolding done responded
+  serves true w w′ b e = let z : done w (record { taking = Add b; effect = record { changes = Clear ∷ []; response = Serve bytes reply; put = none } }) ≡ w′ = cc in (sym (ap (λ (v : World). v .front .unread) z), sym (ap (λ (v : World). v .front .reply) z))
+  serves false w w′ b e = never (cc)
 
 -- the last byte of a Read Data that finds one sector
-module _ (s : Setting) (m : Bool) (c x : ℕ) (new : Disk) (code unit : ℕ) (id : SectorId) (eot gap dtl : ℕ) (z : Sector) where
+module _ (s : Setting) (m : Bool) (c x : ℕ) (new : Disk) (code c1 : ℕ) (id : SectorId) (eot gap dtl : ℕ) (z : Sector) where
   abbrev Nine : List ℕ
-  Nine = code ∷ unit ∷ id .c ∷ id .h ∷ id .r ∷ id .n ∷ eot ∷ gap ∷ dtl ∷ []
+  Nine = code ∷ c1 ∷ id .c ∷ id .h ∷ id .r ∷ id .n ∷ eot ∷ gap ∷ dtl ∷ []
 
   abbrev Reply : List ℕ
   Reply = readReply false Nine (length (contents (z ∷ []))) (sizesOf (z ∷ [])) (z .st1 .bits) (z .st2 .bits)
 
-  last-sent : kindOf code ≡ ReadData → driveOf unit ≡ 0 → readAt new (headOf unit) c id eot ≡ z ∷ []
-      → sent s (partly m c x new (code ∷ unit ∷ id .c ∷ id .h ∷ id .r ∷ id .n ∷ eot ∷ gap ∷ [])) dtl
+  last-sent : commandOf code ≡ ReadData → driveOf c1 ≡ 0 → readAt new (headOf c1) c id eot ≡ z ∷ []
+      → sent s (partly m c x new (code ∷ c1 ∷ id .c ∷ id .h ∷ id .r ∷ id .n ∷ eot ∷ gap ∷ [])) dtl
       ≡ sends (Add dtl) (clearing (need (leb (length (contents (z ∷ []))) (s .transfer)) NoTransferRoom (does [] (Serve (contents (z ∷ [])) Reply))))
   unfolding sent byteFor commandByte commandIf obeyed readData servedAs
-  last-sent e f g = rw (e, eq-eqb (unit % 4) 0 f, g)
+  last-sent e f g = rw (e, drive-0 c1 c new f, g)
 
   -- the reply, where the bytes are as many as n calls for
-  last-reply : length (contents (z ∷ [])) ≡ sizesOf (z ∷ []) → Reply ≡ (u unit + 0x40) ∷ withBit 0x80 (z .st1 .bits) ∷ z .st2 .bits ∷ id .c ∷ id .h ∷ eot ∷ id .n ∷ []
+  last-reply : length (contents (z ∷ [])) ≡ sizesOf (z ∷ []) → Reply ≡ (u c1 + 0x40) ∷ withBit 0x80 (z .st1 .bits) ∷ z .st2 .bits ∷ id .c ∷ id .h ∷ eot ∷ id .n ∷ []
   unfolding readReply endOf markOf
   last-reply e = rw (eq-eqb (length (contents (z ∷ []))) (sizesOf (z ∷ [])) e)
 
-module _ (a : Save) (d : Disk) (unit eot : ℕ) (save : IsSave a d) where
+module _ (a : Save) (d : Disk) (c1 eot : ℕ) (save : IsSave a d) where
   -- the sector as it then is
   abbrev Kept : Sector
   Kept = withContent (a .content) (save .sector)
 
-  kept-there : headOf unit ≡ headOf (a .unit) → sectorAt (savedBy a d) (headOf unit) (a .cylinder) (a .id) ≡ found (save .place) Kept
+  kept-there : headOf c1 ≡ headOf (a .c1) → sectorAt (savedBy a d) (headOf c1) (a .cylinder) (a .id) ≡ found (save .place) Kept
   unfolding addressOf
   kept-there e =
       ap (λ (h : ℕ). sectorAt (savedBy a d) h (a .cylinder) (a .id)) e
       ∙ save-found (addressOf a) (a .content) d
       ∙ ap (mapFound (withContent (a .content))) (save .there)
 
-  kept-read : headOf unit ≡ headOf (a .unit) → eot ≤ a .id .r → readAt (savedBy a d) (headOf unit) (a .cylinder) (a .id) eot ≡ Kept ∷ []
+  kept-read : headOf c1 ≡ headOf (a .c1) → eot ≤ a .id .r → readAt (savedBy a d) (headOf c1) (a .cylinder) (a .id) eot ≡ Kept ∷ []
   unfolding readAt sectorAt
-  kept-read e h = read-one (find (isTrack (headOf unit) (a .cylinder)) (savedBy a d)) (a .id) eot (save .place) Kept (kept-there e) h
+  kept-read e h = read-one (find (isTrack (headOf c1) (a .cylinder)) (savedBy a d)) (a .id) eot (save .place) Kept (kept-there e) h
 
   kept-bytes : contents (Kept ∷ []) ≡ a .content
   unfolding contents
@@ -164,29 +168,29 @@ module _ (a : Save) (d : Disk) (unit eot : ℕ) (save : IsSave a d) where
 
 -- A Read Data of the saved sector alone, sent next with port reads wherever they fall, hands out the save's bytes in order and then the reply,
 -- to data-port reads of which no status read loses a byte.
-pub read-back : (s : Setting) (a : Save) (d : Disk) (code unit eot gap dtl : ℕ) (w u′ : World) (es fs gs : List Event) (p q r : Played)
+pub read-back : (s : Setting) (a : Save) (d : Disk) (code c1 eot gap dtl : ℕ) (w u′ : World) (es fs gs : List Event) (p q r : Played)
     → Ready w d → (save : IsSave a d) → sentIn es ≡ bytesOf a → play s es w ≡ good p
-    → ReadsBack a code unit eot → sentIn fs ≡ readBytes a code unit eot gap → play s fs (p .world) ≡ good q
+    → ReadsBack a code c1 eot → sentIn fs ≡ readBytes a code c1 eot gap → play s fs (p .world) ≡ good q
     → writePort s (q .world) dtl ≡ good u′
     → LosesNone gs u′ → length (a .content) + 7 ≤ dataReads gs → play s gs u′ ≡ good r
-    → take (length (a .content) + 7) (givenIn (r .answers)) ≡ a .content ++ replyTo a unit eot (save .sector)
+    → take (length (a .content) + 7) (givenIn (r .answers)) ≡ a .content ++ replyTo a c1 eot (save .sector)
 unfolding readBytes replyTo writePort
-read-back s a d code unit eot gap dtl w u′ es fs gs p q r ready save es-is ran-es back fs-is ran-fs last none-lost enough ran-gs =
+read-back s a d code c1 eot gap dtl w u′ es fs gs p q r ready save es-is ran-es back fs-is ran-fs last none-lost enough ran-gs =
     let m : Bool = w .inside .motor in
     let x : ℕ = w .inside .index in
-    let eight : List ℕ = code ∷ unit ∷ a .id .c ∷ a .id .h ∷ a .id .r ∷ a .id .n ∷ eot ∷ gap ∷ [] in
+    let eight : List ℕ = code ∷ c1 ∷ a .id .c ∷ a .id .h ∷ a .id .r ∷ a .id .n ∷ eot ∷ gap ∷ [] in
     let i : Inside = partly m (a .cylinder) x (savedBy a d) eight in
     let e : good (q .world .inside) ≡ good i
     = ap insides (sym ran-fs) ∙ play-inside s fs (p .world) ∙ ap (λ (l : List ℕ). fed s l (p .world .inside)) fs-is
     ∙ ap (fed s eight) (saved-inside s a d w es p ready save es-is ran-es)
-    ∙ part-fed s m (a .cylinder) x (savedBy a d) code ReadData (back .reads) (unit ∷ a .id .c ∷ a .id .h ∷ a .id .r ∷ a .id .n ∷ eot ∷ gap ∷ []) (omega arith) in
+    ∙ part-fed s m (a .cylinder) x (savedBy a d) code ReadData (back .reads) (c1 ∷ a .id .c ∷ a .id .h ∷ a .id .r ∷ a .id .n ∷ eot ∷ gap ∷ []) (omega arith) in
     let inside-is : q .world .inside ≡ i = cc in
     let z : Sector = withContent (a .content) (save .sector) in
     let sent-is = ap (λ (j : Inside). sent s j dtl) inside-is
-    ∙ last-sent s m (a .cylinder) x (savedBy a d) code unit (a .id) eot gap dtl z (back .reads) (back .drive-0) (kept-read a d unit eot save (back .same-head) (back .alone)) in
+    ∙ last-sent s m (a .cylinder) x (savedBy a d) code c1 (a .id) eot gap dtl z (back .reads) (back .drive-0) (kept-read a d c1 eot save (back .same-head) (back .alone)) in
     let front = serves (s .transfer) (contents (z ∷ [])) _ (leb (length (contents (z ∷ []))) (s .transfer)) (q .world) u′ dtl
     (sym (ap (λ (y : Result Sent). after y (λ v. good (done (q .world) v))) sent-is) ∙ last) in
-    handed s gs u′ (a .content) (replyTo a unit eot (save .sector)) r
-    (front .0 ∙ kept-bytes a d unit eot save)
-    (front .1 ∙ last-reply s m (a .cylinder) x (savedBy a d) code unit (a .id) eot gap dtl z (kept-long a d unit eot save))
+    handed s gs u′ (a .content) (replyTo a c1 eot (save .sector)) r
+    (front .0 ∙ kept-bytes a d c1 eot save)
+    (front .1 ∙ last-reply s m (a .cylinder) x (savedBy a d) code c1 (a .id) eot gap dtl z (kept-long a d c1 eot save))
     none-lost enough ran-gs

@@ -4,22 +4,27 @@ use Prim.Native.Nat.{ℕ, suc, _+_, _≤_}
 use mathlib.Core.List.{List, [], _∷_}
 use mathlib.Core.Option.{none}
 use lib.ListN.{length}
+use Rattle.fields.specs.Bytes.{withBit}
 use Rattle.fields.specs.Refusals.{good}
 use Rattle.fields.specs.Model.{sizeOf, Sector, Disk}
 use Rattle.fields.specs.declared.id.SectorId.{SectorId}
 use Rattle.store.specs.Find.{found}
 use Rattle.store.specs.Search.{sectorAt}
 use Rattle.disk.specs.Change.{saved}
-use Rattle.kinds.specs.declared.kind.Kind.the-variants.{ReadData, WriteData}
-use Rattle.registers.specs.Boxes.{Holds, World}
-use Rattle.kinds.specs.Table.{kindOf}
+use Rattle.codes.specs.declared.command.Command.the-variants.{ReadData, WriteData}
+use Rattle.registers.specs.Boxes.{Slot, Holds, World}
+use Rattle.codes.specs.Table.{commandOf}
 use Rattle.registers.specs.Ports.{afterStatus, afterRead}
-use Rattle.commands.specs.Commands.{u, driveOf, headOf, withBit}
+use Rattle.codes.specs.Second.{u, driveOf, headOf}
 use Rattle.saves.specs.Events.{Event, poll, read, send, Answer, showed, gave, took}
+
+-- what is in drive 0
+abbrev pub inDrive : World → Slot
+inDrive w = w .inside .drives .first .slot
 
 -- a disk is in drive 0, nothing is half sent, no write is in progress
 pub record Ready (w : World) (d : Disk) : Type 0 where
-  pub disk-in : w .inside .slot ≡ Holds (good d)
+  pub disk-in : inDrive w ≡ Holds (good d)
   pub nothing-sent : w .inside .command ≡ []
   pub no-write : w .inside .write ≡ none
 
@@ -31,10 +36,10 @@ pub record Address : Type 0 where
 
 -- a save: a Seek, a Write Data and its data
 pub record Save : Type 0 where
-  pub seekUnit : ℕ
+  pub seekC1 : ℕ
   pub cylinder : ℕ
   pub code : ℕ
-  pub unit : ℕ
+  pub c1 : ℕ
   pub id : SectorId
   pub eot : ℕ
   pub gap : ℕ
@@ -44,23 +49,23 @@ pub record Save : Type 0 where
 -- the bytes that are sent
 unfoldable pub bytesOf : Save → List ℕ
 bytesOf a =
-    0x0F ∷ a .seekUnit ∷ a .cylinder
-    ∷ a .code ∷ a .unit ∷ a .id .c ∷ a .id .h ∷ a .id .r ∷ a .id .n ∷ a .eot ∷ a .gap ∷ a .dtl
+    0x0F ∷ a .seekC1 ∷ a .cylinder
+    ∷ a .code ∷ a .c1 ∷ a .id .c ∷ a .id .h ∷ a .id .r ∷ a .id .n ∷ a .eot ∷ a .gap ∷ a .dtl
     ∷ a .content
 
 -- where it goes
 unfoldable pub addressOf : Save → Address
-addressOf a = record { cylinder = a .cylinder; side = headOf (a .unit); id = a .id }
+addressOf a = record { cylinder = a .cylinder; side = headOf (a .c1); id = a .id }
 
 -- every command names drive 0, the Write Data a sector that is there, and the data are as many bytes as its n calls for
 pub record IsSave (a : Save) (d : Disk) : Type 0 where
-  pub writes : kindOf (a .code) ≡ WriteData
-  pub seeks-drive-0 : driveOf (a .seekUnit) ≡ 0
-  pub writes-drive-0 : driveOf (a .unit) ≡ 0
+  pub writes : commandOf (a .code) ≡ WriteData
+  pub seeks-drive-0 : driveOf (a .seekC1) ≡ 0
+  pub writes-drive-0 : driveOf (a .c1) ≡ 0
   pub as-many : length (a .content) ≡ sizeOf (a .id .n)
   pub place : ℕ
   pub sector : Sector
-  pub there : sectorAt d (headOf (a .unit)) (a .cylinder) (a .id) ≡ found place sector
+  pub there : sectorAt d (headOf (a .c1)) (a .cylinder) (a .id) ≡ found place sector
 
 -- the disk on which the sector at an address has other bytes
 unfoldable pub savedAt : Address → List ℕ → Disk → Disk
@@ -73,19 +78,19 @@ savedBy a d = savedAt (addressOf a) (a .content) d
 -- ---- Reading it back
 
 -- a Read Data of the save's sector alone: drive 0, the same head and ID, eot at most r
-pub record ReadsBack (a : Save) (code unit eot : ℕ) : Type 0 where
-  pub reads : kindOf code ≡ ReadData
-  pub drive-0 : driveOf unit ≡ 0
-  pub same-head : headOf unit ≡ headOf (a .unit)
+pub record ReadsBack (a : Save) (code c1 eot : ℕ) : Type 0 where
+  pub reads : commandOf code ≡ ReadData
+  pub drive-0 : driveOf c1 ≡ 0
+  pub same-head : headOf c1 ≡ headOf (a .c1)
   pub alone : eot ≤ a .id .r
 
 -- its bytes but the last, dtl
 unfoldable pub readBytes : Save → ℕ → ℕ → ℕ → ℕ → List ℕ
-readBytes a code unit eot gap = code ∷ unit ∷ a .id .c ∷ a .id .h ∷ a .id .r ∷ a .id .n ∷ eot ∷ gap ∷ []
+readBytes a code c1 eot gap = code ∷ c1 ∷ a .id .c ∷ a .id .h ∷ a .id .r ∷ a .id .n ∷ eot ∷ gap ∷ []
 
 -- the reply: EN, since the bytes are as many as n calls for, beside the sector's own status bits
 unfoldable pub replyTo : Save → ℕ → ℕ → Sector → List ℕ
-replyTo a unit eot z = (u unit + 0x40) ∷ withBit 0x80 (z .st1 .bits) ∷ z .st2 .bits ∷ a .id .c ∷ a .id .h ∷ eot ∷ a .id .n ∷ []
+replyTo a c1 eot z = (u c1 + 0x40) ∷ withBit 0x80 (z .st1 .bits) ∷ z .st2 .bits ∷ a .id .c ∷ a .id .h ∷ eot ∷ a .id .n ∷ []
 
 -- port reads alone, of which no status read loses a byte
 unfoldable pub LosesNone : List Event → World → Type 0

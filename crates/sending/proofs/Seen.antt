@@ -12,33 +12,36 @@ use lib.Dec.{eqb, ltb, leb}
 use borrow.Author.Tests.{ltb-true, ltb-false, leb-true}
 use Rattle.buffer.specs.Over.{over}
 use Rattle.fields.specs.Refusals.{Result, refused, good, need, after}
+use Rattle.fields.specs.Capacities.{mostHeld}
 use Rattle.fields.specs.Model.{sizeOf, Sector, Disk, byteCount}
-use Rattle.fields.specs.declared.id.SectorId.{SectorId}
 use Rattle.fields.specs.declared.refusal.Refusal.the-variants.{BadController, NoRoom}
 use Rattle.fields.proofs.Sizes.{size-most}
+use Rattle.fields.proofs.Tests.{never}
 use Rattle.store.specs.Find.{Found, nothing, found}
 use Rattle.store.specs.Search.{sectorAt}
 use Rattle.store.specs.Store.{roomOf, tableOf, dataOf, diskOf}
-use Rattle.store.specs.Fresh.{formatted}
 use Rattle.store.specs.Calls.{fitting}
-use Rattle.store.specs.declared.answer.Done.the-variants as finished
+use Rattle.registers.specs.declared.regs.Receipt.the-variants as receipt
 use Rattle.store.proofs.Rounds.{over-front}
 use Rattle.disk.specs.Change.{saved, setTrack}
 use Rattle.disk.proofs.Accepts.{format-accepted, save-accepted}
-use Rattle.kinds.specs.declared.kind.Kind.{Kind}
-use Rattle.kinds.specs.declared.kind.Kind.the-variants.{Specify, SenseDrive, Recalibrate, SenseInterrupt, SeekTo, Version, ReadData, ReadDeleted, WriteData, ReadId, FormatTrack, Unserved, Invalid}
+use Rattle.codes.specs.declared.command.Command.{Command}
+use Rattle.codes.specs.declared.command.Command.the-variants.{Specify, SenseDrive, Recalibrate, SenseInterrupt, SeekTo, Version, ReadData, ReadDeleted, WriteData, ReadId, FormatTrack, Unserved, Invalid}
 use Rattle.registers.specs.declared.regs.Regs.{Regs}
 use Rattle.registers.specs.declared.regs.Pending.{Pending}
 use Rattle.registers.specs.declared.regs.Seek.{Seek}
 use Rattle.registers.specs.declared.regs.Seek.the-variants.{Idle, Running, Done}
-use Rattle.registers.specs.Boxes.{Setting, Slot, Holds, Writing, Inside, World, Taking, Add, Hold, Change, Clear, MoveTo, Turn, Start, Finish, Shift, Stay, Reply, ReplyIfNone, Seeking, Interrupt, Serve, Effect, Sent, withCommand, withWrite, withSlot, holding, taken, changed, allChanged, putIn, withReply, ifNone, interrupted, shifted}
-use Rattle.kinds.specs.Table.{kindOf, bytesFor}
-use Rattle.registers.specs.View.{settingOf, slotIf, slotOf, writingIf, insideOf, frontOf, worldOf, impossible, impossibleIn}
+use Rattle.registers.specs.Boxes.{Setting, Slot, Holds, Drives, Writing, Inside, World, fitted, namedIf, named, seven, withCommand, withWrite, withSlot, holdingIn}
+use Rattle.registers.specs.Boxes.{Taking, Add, Hold, Change, Clear, MoveTo, Turn, Start, Finish, Response, Stay, Reply, ReplyIfNone, Seeking, Interrupt, Serve, Effect, Sent}
+use Rattle.registers.specs.Boxes.{taken, changed, allChanged, putIn, withReply, ifNone, interrupted, responded}
+use Rattle.codes.specs.Table.{commandOf, bytesFor}
+use Rattle.registers.specs.View.{settingOf, slotIf, slotOf, drivesOf, namedIn, writingOf, writingIf, insideOf, frontOf, worldOf, impossible, impossibleIn}
 use Rattle.registers.specs.declared.regs.Flag.the-variants as flag
 use Rattle.registers.specs.Calls.{diskIn}
-use Rattle.registers.specs.Settle.{replied, regsTaken, heldTaken, regsChanged, regsAll, ifUnread, interruptedBy, regsShifted, regsOf}
+use Rattle.registers.specs.Settle.{declined, replied, regsTaken, heldTaken, regsChanged, regsAll, ifUnread, interruptedBy, regsResponded, regsOf}
 use Rattle.registers.proofs.Numbers.{possible, possible-in, count-few, taken-few}
-use Rattle.commands.specs.Commands.{byte, idOf, driveOf, headOf, ready, inDrive, named, puts, seekIf, readData, writeData, readId, saveAt, written, formatTrack, obeyed, writeReply, u}
+use Rattle.codes.specs.Second.{u, headOf}
+use Rattle.commands.specs.Commands.{byte, idOf, ready, whenReady, puts, seekTo, readData, writeData, readId, writeReply, saveAt, written, formatOf, formatTrack, obeyed}
 use Rattle.sending.specs.Machine.{sends, commandIf, commandByte, dataIf, dataByte, sent, done, writePort}
 use Rattle.commands.specs.Lent.{tableWith, dataWith, transferWith, Left, left, leftOf}
 use Rattle.sending.specs.Calls.{sentTo, dataWrite}
@@ -57,8 +60,8 @@ more : (l : List ℕ) (i b : ℕ) → i < length l → take (i + 1) (set l i b) 
 more l i b g = rw add-one (take-suc-set l i b g)
 
 more-held : (f : Bool) (p : Pending) (h : List ℕ) (b : ℕ) → p .taken < length h
-    → writingIf f (record { on = f; c1 = p .c1; id = p .id; taken = p .taken + 1 }) (set h (p .taken) b) ≡ holding b (writingIf f p h)
-more-held true p h b g = ap (λ (l : List ℕ). some (record { unit = p .c1; id = p .id; held = l })) (more h (p .taken) b g)
+    → writingIf f (record { on = f; c1 = p .c1; id = p .id; taken = p .taken + 1 }) (set h (p .taken) b) ≡ holdingIn b (writingIf f p h)
+more-held true p h b g = ap (λ (l : List ℕ). some (writingOf p l)) (more h (p .taken) b g)
 more-held false p h b g = refl
 
 seen-taken : (x : Taking) (r : Regs) (h : List ℕ) (s : Slot) → Fits x r h → insideOf (regsTaken x r) (heldTaken x r h) s ≡ taken x (insideOf r h s)
@@ -71,7 +74,7 @@ unfolding insideOf changed
 seen-change Clear r h s = refl
 seen-change (MoveTo c) r h s = refl
 seen-change Turn r h s = refl
-seen-change (Start unit id) r h s = refl
+seen-change (Start c1 id) r h s = refl
 seen-change Finish r h s = refl
 
 seen-changes : (xs : List Change) (r : Regs) (h : List ℕ) (s : Slot) → insideOf (regsAll xs r) h s ≡ allChanged xs (insideOf r h s)
@@ -97,7 +100,7 @@ unfolding frontOf
 same-change Clear r = record { front = λ x. refl; flag = refl; few = λ h. h; long = λ h. h }
 same-change (MoveTo c) r = record { front = λ x. refl; flag = refl; few = λ h. h; long = λ h. h }
 same-change Turn r = record { front = λ x. refl; flag = refl; few = λ h. h; long = λ h. h }
-same-change (Start unit id) r = record { front = λ x. refl; flag = refl; few = λ h. h; long = λ h. h }
+same-change (Start c1 id) r = record { front = λ x. refl; flag = refl; few = λ h. h; long = λ h. h }
 same-change Finish r = record { front = λ x. refl; flag = refl; few = λ h. h; long = λ h. h }
 
 same-then : (a b c : Regs) → Same a b → Same b c → Same a c
@@ -145,40 +148,40 @@ seen-if false bytes r x f l e =
     seen-reply bytes r x
     ∙ (unfold frontOf in ap (λ (y : List ℕ). withReply y (frontOf r x)) (sym (if-none bytes (r .place) (r .fill) (r .reply) (ltb-false _ _ e) (omega (arith, f, l)))))
 
-seen-serve : (bytes reply : List ℕ) (r : Regs) (x : List ℕ) → frontOf (regsShifted (Serve bytes reply) r) (over x 0 bytes) ≡ shifted (Serve bytes reply) (frontOf r x)
-unfolding regsShifted shifted frontOf
+seen-serve : (bytes reply : List ℕ) (r : Regs) (x : List ℕ) → frontOf (regsResponded (Serve bytes reply) r) (over x 0 bytes) ≡ responded (Serve bytes reply) (frontOf r x)
+unfolding regsResponded responded frontOf
 seen-serve bytes reply r x =
     let p : slice 0 (length reply) (reply ++ replicate (7 - length reply) 0) ≡ reply = read-back reply (replicate (7 - length reply) 0) in
     let q : slice 0 (length bytes) (over x 0 bytes) ≡ bytes = ap (slice 0 (length bytes)) (over-front x bytes) ∙ read-back bytes (drop (length bytes) x) in
     λ i. record { seek = r .drive .seek; reply = p i; unread = q i; lost = r .lost }
 
-seen-shift : (s : Shift) (r : Regs) (x : List ℕ) → r .fill ≤ 7 → length (r .reply) ≡ 7 → frontOf (regsShifted s r) (transferWith s x) ≡ shifted s (frontOf r x)
-unfolding regsShifted shifted frontOf
-seen-shift Stay r x f l = refl
-seen-shift (Reply bytes) r x f l = seen-reply bytes r x
-seen-shift (ReplyIfNone bytes) r x f l = seen-if (ltb (r .place) (r .fill)) bytes r x f l refl
-seen-shift Seeking r x f l = refl
-seen-shift (Interrupt c) r x f l = seen-interrupt c r x (r .drive .seek)
-seen-shift (Serve bytes reply) r x f l = seen-serve bytes reply r x
+seen-response : (s : Response) (r : Regs) (x : List ℕ) → r .fill ≤ 7 → length (r .reply) ≡ 7 → frontOf (regsResponded s r) (transferWith s x) ≡ responded s (frontOf r x)
+unfolding regsResponded responded frontOf
+seen-response Stay r x f l = refl
+seen-response (Reply bytes) r x f l = seen-reply bytes r x
+seen-response (ReplyIfNone bytes) r x f l = seen-if (ltb (r .place) (r .fill)) bytes r x f l refl
+seen-response Seeking r x f l = refl
+seen-response (Interrupt c) r x f l = seen-interrupt c r x (r .drive .seek)
+seen-response (Serve bytes reply) r x f l = seen-serve bytes reply r x
 
 -- what is done in front leaves the inside, and the flag of the disk
-shift-inside : (s : Shift) (r : Regs) (h : List ℕ) (slot : Slot) → (insideOf (regsShifted s r) h slot ≡ insideOf r h slot) × (regsShifted s r .drive .disk ≡ r .drive .disk)
-unfolding regsShifted insideOf
-shift-inside Stay r h slot = (refl, refl)
-shift-inside (Reply bytes) r h slot = (refl, refl)
-shift-inside (ReplyIfNone bytes) r h slot = go (ltb (r .place) (r .fill))
+response-inside : (s : Response) (r : Regs) (h : List ℕ) (slot : Slot) → (insideOf (regsResponded s r) h slot ≡ insideOf r h slot) × (regsResponded s r .drive .disk ≡ r .drive .disk)
+unfolding regsResponded insideOf
+response-inside Stay r h slot = (refl, refl)
+response-inside (Reply bytes) r h slot = (refl, refl)
+response-inside (ReplyIfNone bytes) r h slot = go (ltb (r .place) (r .fill))
   where
     go : (v : Bool) → (insideOf (ifUnread v bytes r) h slot ≡ insideOf r h slot) × (ifUnread v bytes r .drive .disk ≡ r .drive .disk)
     go true = unfold ifUnread in (refl, refl)
     go false = unfold ifUnread in (refl, refl)
-shift-inside Seeking r h slot = (refl, refl)
-shift-inside (Interrupt c) r h slot = go (r .drive .seek)
+response-inside Seeking r h slot = (refl, refl)
+response-inside (Interrupt c) r h slot = go (r .drive .seek)
   where
     go : (s : Seek) → (insideOf (interruptedBy c r s) h slot ≡ insideOf r h slot) × (interruptedBy c r s .drive .disk ≡ r .drive .disk)
     go Idle = unfold interruptedBy in (refl, refl)
     go Running = unfold interruptedBy in (refl, refl)
     go Done = unfold interruptedBy in (refl, refl)
-shift-inside (Serve bytes reply) r h slot = (refl, refl)
+response-inside (Serve bytes reply) r h slot = (refl, refl)
 
 -- ---- the disk that is put is the one that the store then holds
 
@@ -188,12 +191,12 @@ module _ (r : Regs) (t d : List ℕ) where
   Lays (some y) = (r .drive .disk ≡ true) × (diskOf (over t 0 (tableOf y)) (over d 0 (dataOf y)) ≡ good y)
 
   abbrev LaysE : Result Effect → Type 0
-  LaysE = OfEffect (λ shift put. Lays put)
+  LaysE = OfEffect (λ response put. Lays put)
 
   abbrev LaysS : Result Sent → Type 0
-  LaysS = OfSent (λ shift put. Lays put)
+  LaysS = OfSent (λ response put. Lays put)
 
-  seen-slot : (put : Option Disk) (i : Inside) (f : Bool) → Lays put → f ≡ r .drive .disk → i .slot ≡ slotOf r t d
+  seen-slot : (put : Option Disk) (i : Inside) (f : Bool) → Lays put → f ≡ r .drive .disk → i .drives .first .slot ≡ slotOf r t d
       → putIn put i ≡ withSlot (slotIf f (diskOf (tableWith put t) (dataWith put d))) i
   unfolding putIn
   seen-slot none i f g e q = λ k. withSlot ((q ∙ ap (λ (v : Bool). slotIf v (diskOf t d)) (sym e)) k) i
@@ -201,63 +204,72 @@ module _ (r : Regs) (t d : List ℕ) where
     where
       held : (v : Bool) → v ≡ true → diskOf (over t 0 (tableOf y)) (over d 0 (dataOf y)) ≡ good y → Holds (good y) ≡ slotIf v (diskOf (over t 0 (tableOf y)) (over d 0 (dataOf y)))
       held true z w = ap Holds (sym w)
-      held false z w = let n : _≡_ {A = ℕ} 0 1 = cc in absurd (omega arith)
+      held false z w = never (cc)
 
   unput-lays : (e : Result Effect) → Unput e → LaysE e
   unput-lays (refused why) q = tt
   unput-lays (good e) q = subst Lays (sym q) tt
 
-  format-lays : (v f : Bool) (disk : Result Disk) (unit n count gap filler cylinder : ℕ) → r .drive .disk ≡ f → diskOf t d ≡ disk
-      → LaysE (formatTrack (roomOf d) unit n count gap filler cylinder (inDrive v (slotIf f disk)))
+  -- a command that looks at the drive that it names finds no disk, a refusal, or the disk that the store holds
+  named-lays : (c1 : ℕ) (e : Result Effect) (F : Disk → Result Effect) → LaysE e → ((y : Disk) → r .drive .disk ≡ true → diskOf t d ≡ good y → LaysE (F y))
+      → LaysE (whenReady (namedIn c1 r t d .slot) e F)
+  unfolding named
+  named-lays c1 e F p q = go (fitted c1) (r .drive .disk) refl (diskOf t d) refl
+    where
+      go : (v f : Bool) → r .drive .disk ≡ f → (disk : Result Disk) → diskOf t d ≡ disk
+          → LaysE (whenReady (namedIf v (record { cylinder = r .drive .cylinder; slot = slotIf f disk }) .slot) e F)
+      go false f h disk w = p
+      go true false h disk w = p
+      go true true h (refused why) w = tt
+      go true true h (good y) w = q y h w
+
+  format-lays : (x l : List ℕ) → LaysE (formatTrack (settingOf d x) l (namedIn (byte l 1) r t d))
   unfolding formatTrack
-  format-lays false f disk unit n count gap filler cylinder e q = tt
-  format-lays true false disk unit n count gap filler cylinder e q = tt
-  format-lays true true (refused why) unit n count gap filler cylinder e q = tt
-  format-lays true true (good y) unit n count gap filler cylinder e q = go (fitting (roomOf d) (setTrack (headOf unit) cylinder (formatted cylinder (headOf unit) n count gap filler) y)) refl
+  format-lays x l = named-lays (byte l 1) _ _ tt (λ y h w. go y h w (fitting (roomOf d) (Set y)) refl)
     where
-      go : (new : Result Disk) → fitting (roomOf d) (setTrack (headOf unit) cylinder (formatted cylinder (headOf unit) n count gap filler) y) ≡ new
-          → LaysE (after new (λ z. puts [] z (u unit ∷ 0 ∷ 0 ∷ 0 ∷ 0 ∷ 0 ∷ n ∷ [])))
-      go (refused why) w = tt
-      go (good z) w = (e, format-accepted t d y q (setTrack (headOf unit) cylinder (formatted cylinder (headOf unit) n count gap filler) y) z w)
+      Set : Disk → Disk
+      Set y = let c : ℕ = namedIn (byte l 1) r t d .cylinder in setTrack (headOf (byte l 1)) c (formatOf l c) y
 
-  save-lays : (v : Bool) (y : Disk) (unit : ℕ) (id : SectorId) (new : List ℕ) (cylinder : ℕ) → r .drive .disk ≡ true → diskOf t d ≡ good y
-      → leb (byteCount (saved (headOf unit) cylinder id new y)) (roomOf d) ≡ v
-      → LaysE (need v NoRoom (puts (Finish ∷ []) (saved (headOf unit) cylinder id new y) (writeReply unit id)))
-  save-lays true y unit id new cylinder e q w = (e, save-accepted t d y q (headOf unit) cylinder id new (leb-true _ _ w))
-  save-lays false y unit id new cylinder e q w = tt
+      go : (y : Disk) → r .drive .disk ≡ true → diskOf t d ≡ good y → (new : Result Disk) → fitting (roomOf d) (Set y) ≡ new
+          → LaysE (after new (λ z. puts [] z (seven (u (byte l 1)) 0 0 (record { c = 0; h = 0; r = 0; n = byte l 2 }))))
+      go y h w (refused why) e = tt
+      go y h w (good z) e = (h, format-accepted t d y w (Set y) z e)
 
-  written-lays : (f : Bool) (disk : Result Disk) (unit : ℕ) (id : SectorId) (new : List ℕ) (cylinder : ℕ) → r .drive .disk ≡ f → diskOf t d ≡ disk
-      → LaysE (written (roomOf d) unit id new cylinder (slotIf f disk))
-  unfolding written
-  written-lays false disk unit id new cylinder e q = tt
-  written-lays true (refused why) unit id new cylinder e q = tt
-  written-lays true (good y) unit id new cylinder e q = go (sectorAt y (headOf unit) cylinder id)
+  written-lays : (x : List ℕ) (w : Writing) → LaysE (written (settingOf d x) w (namedIn (w .c1) r t d))
+  unfolding written saveAt
+  written-lays x w = named-lays (w .c1) _ _ tt (λ y h e. go y h e (sectorAt y (headOf (w .c1)) (namedIn (w .c1) r t d .cylinder) (w .id)))
     where
-      go : (s : Found Sector) → LaysE (saveAt (roomOf d) unit id (saved (headOf unit) cylinder id new y) s)
-      go nothing = unfold saveAt in tt
-      go (found k s) = unfold saveAt in save-lays _ y unit id new cylinder e q refl
+      New : Disk → Disk
+      New y = saved (headOf (w .c1)) (namedIn (w .c1) r t d .cylinder) (w .id) (w .held) y
 
-  obeyed-lays : (x : List ℕ) (k : Kind) (l : List ℕ) (cylinder index : ℕ) → LaysE (obeyed (settingOf d x) k l cylinder index (slotOf r t d))
+      put : (v : Bool) (y : Disk) → r .drive .disk ≡ true → diskOf t d ≡ good y → leb (byteCount (New y)) (roomOf d) ≡ v
+          → LaysE (need v NoRoom (puts (Finish ∷ []) (New y) (writeReply w)))
+      put true y h e q = (h, save-accepted t d y e (headOf (w .c1)) (namedIn (w .c1) r t d .cylinder) (w .id) (w .held) (leb-true _ _ q))
+      put false y h e q = tt
+
+      go : (y : Disk) → r .drive .disk ≡ true → diskOf t d ≡ good y → (s : Found Sector) → LaysE (saveAt (settingOf d x) w (New y) s)
+      go y h e nothing = tt
+      go y h e (found k s) = put (leb (byteCount (New y)) (roomOf d)) y h e refl
+
+  obeyed-lays : (x : List ℕ) (k : Command) (l : List ℕ) → LaysE (obeyed (settingOf d x) k l (drivesOf r t d) (r .index))
   unfolding obeyed
-  obeyed-lays x Specify l c i = tt
-  obeyed-lays x SenseDrive l c i = tt
-  obeyed-lays x Recalibrate l c i = unput-lays (seekIf (eqb (driveOf (byte l 1)) 0) 0) (quiet-seek (eqb (driveOf (byte l 1)) 0) 0 .0)
-  obeyed-lays x SenseInterrupt l c i = tt
-  obeyed-lays x SeekTo l c i = unput-lays (seekIf (eqb (driveOf (byte l 1)) 0) (byte l 2)) (quiet-seek (eqb (driveOf (byte l 1)) 0) (byte l 2) .0)
-  obeyed-lays x Version l c i = tt
-  obeyed-lays x ReadData l c i = unput-lays (readData (settingOf d x .transfer) false l c (named (byte l 1) (slotOf r t d))) (unput-read (settingOf d x .transfer) false l c (named (byte l 1) (slotOf r t d)))
-  obeyed-lays x ReadDeleted l c i = unput-lays (readData (settingOf d x .transfer) true l c (named (byte l 1) (slotOf r t d))) (unput-read (settingOf d x .transfer) true l c (named (byte l 1) (slotOf r t d)))
-  obeyed-lays x WriteData l c i = unput-lays (writeData (byte l 1) (idOf l) c (named (byte l 1) (slotOf r t d))) (quiet-write (byte l 1) (idOf l) c (named (byte l 1) (slotOf r t d)) .0)
-  obeyed-lays x ReadId l c i = unput-lays (readId (byte l 1) c i (named (byte l 1) (slotOf r t d))) (quiet-id (byte l 1) c i (named (byte l 1) (slotOf r t d)) .0)
-  obeyed-lays x FormatTrack l c i = format-lays (eqb (driveOf (byte l 1)) 0) (r .drive .disk) (diskOf t d) (byte l 1) (byte l 2) (byte l 3) (byte l 4) (byte l 5) c refl refl
-  obeyed-lays x Unserved l c i = tt
-  obeyed-lays x Invalid l c i = tt
+  obeyed-lays x Specify l = tt
+  obeyed-lays x SenseDrive l = tt
+  obeyed-lays x Recalibrate l = unput-lays (seekTo 0 (namedIn (byte l 1) r t d)) (quiet-seek _ _ .0)
+  obeyed-lays x SenseInterrupt l = tt
+  obeyed-lays x SeekTo l = unput-lays (seekTo (byte l 2) (namedIn (byte l 1) r t d)) (quiet-seek _ _ .0)
+  obeyed-lays x Version l = tt
+  obeyed-lays x ReadData l = unput-lays (readData (settingOf d x) false l (namedIn (byte l 1) r t d)) (unput-read _ _ _ _)
+  obeyed-lays x ReadDeleted l = unput-lays (readData (settingOf d x) true l (namedIn (byte l 1) r t d)) (unput-read _ _ _ _)
+  obeyed-lays x WriteData l = unput-lays (writeData (byte l 1) (idOf l) (namedIn (byte l 1) r t d)) (quiet-write _ _ _ .0)
+  obeyed-lays x ReadId l = unput-lays (readId (byte l 1) (r .index) (namedIn (byte l 1) r t d)) (quiet-id _ _ _ .0)
+  obeyed-lays x FormatTrack l = format-lays x l
+  obeyed-lays x Unserved l = tt
+  obeyed-lays x Invalid l = tt
 
   sent-lays : (x h : List ℕ) (b : ℕ) → LaysS (sent (settingOf d x) (insideOf r h (slotOf r t d)) b)
   unfolding insideOf
-  sent-lays x h =
-      of-sent (λ shift put. Lays put) (settingOf d x) (insideOf r h (slotOf r t d)) tt (λ k l. obeyed-lays x k l (r .drive .cylinder) (r .index))
-      (λ unit id l. written-lays (r .drive .disk) (diskOf t d) unit id l (r .drive .cylinder) refl refl)
+  sent-lays x h = of-sent (λ response put. Lays put) (settingOf d x) (insideOf r h (slotOf r t d)) tt (obeyed-lays x) (written-lays x)
 
 -- ---- a whole byte
 
@@ -270,19 +282,19 @@ sends-takes : (k : Taking) (e : Result Effect) → Takes k (sends k e)
 sends-takes k (refused why) = tt
 sends-takes k (good e) = refl
 
-command-takes : (s : Setting) (b : ℕ) (l : List ℕ) (c i : ℕ) (slot : Slot) → Takes (Add b) (commandByte s b l c i slot)
+command-takes : (s : Setting) (b : ℕ) (l : List ℕ) (d : Drives) (i : ℕ) → Takes (Add b) (commandByte s b l d i)
 unfolding commandByte
-command-takes s b l c i slot = sends-takes (Add b) (commandIf (eqb (length l) (bytesFor (kindOf (byte l 0)))) s (kindOf (byte l 0)) l c i slot)
+command-takes s b l d i = sends-takes (Add b) (commandIf (eqb (length l) (bytesFor (commandOf (byte l 0)))) s (commandOf (byte l 0)) l d i)
 
-data-takes : (s : Setting) (b unit : ℕ) (id : SectorId) (l : List ℕ) (c : ℕ) (slot : Slot) → Takes (Hold b) (dataByte s b unit id l c slot)
+data-takes : (s : Setting) (b : ℕ) (w : Writing) (d : Drives) → Takes (Hold b) (dataByte s b w d)
 unfolding dataByte
-data-takes s b unit id l c slot = sends-takes (Hold b) (dataIf (eqb (length l) (sizeOf (id .n))) s unit id l c slot)
+data-takes s b w d = sends-takes (Hold b) (dataIf (eqb (length (w .held)) (sizeOf (w .id .n))) s w d)
 
-module _ (r : Regs) (b : ℕ) (h t d x : List ℕ) (ok : impossibleIn x r ≡ false) (nine : length (r .command) ≡ 9) (seven : length (r .reply) ≡ 7) (held : length h ≡ 1024) where
+module _ (r : Regs) (b : ℕ) (h t d x : List ℕ) (ok : impossibleIn x r ≡ false) (nine : length (r .command) ≡ 9) (seven : length (r .reply) ≡ 7) (held : length h ≡ mostHeld) where
   -- what a byte leaves, seen: a refusal, with every byte as it came; or the boxes then
   abbrev pub Sees : Left → Result World → Type 0
-  Sees y (refused why) = y ≡ left (record { done = finished.Refused why; regs = r }) h t d x
-  Sees (left a h′ t′ d′ x′) (good w) = (a .done ≡ finished.Good) × (worldOf (a .regs) h′ t′ d′ x′ ≡ w)
+  Sees y (refused why) = y ≡ left (declined why r) h t d x
+  Sees (left a h′ t′ d′ x′) (good w) = (a .receipt ≡ receipt.Good) × (worldOf (a .regs) h′ t′ d′ x′ ≡ w)
 
   seen-byte : (e : Result Sent) (k : Taking) → Fits k r h → Takes k e → LaysS r t d e → Sees (leftOf e r h t d x) (after e (λ s. good (done (worldOf r h t d x) s)))
   unfolding leftOf regsOf done insideOf
@@ -290,30 +302,30 @@ module _ (r : Regs) (b : ℕ) (h t d x : List ℕ) (ok : impossibleIn x r ≡ fa
   seen-byte (good s) k g q l =
       let tk : Taking = s .taking in
       let xs : List Change = s .effect .changes in
-      let sh : Shift = s .effect .shift in
+      let sh : Response = s .effect .response in
       let r₁ : Regs = regsTaken tk r in
       let r₂ : Regs = regsAll xs r₁ in
       let h′ : List ℕ = heldTaken tk r h in
       let same = same-then r r₁ r₂ (same-taken tk r) (same-changes xs r₁) in
       let fit : Fits tk r h = subst (λ (z : Taking). Fits z r h) (sym q) g in
-      let slot′ = slotOf (regsShifted sh r₂) (tableWith (s .effect .put) t) (dataWith (s .effect .put) d) in
+      let slot′ = slotOf (regsResponded sh r₂) (tableWith (s .effect .put) t) (dataWith (s .effect .put) d) in
       let i : insideOf r₂ h′ (slotOf r t d) ≡ allChanged xs (taken tk (insideOf r h (slotOf r t d)))
       = seen-changes xs r₁ h′ (slotOf r t d) ∙ ap (allChanged xs) (seen-taken tk r h (slotOf r t d) fit) in
-      let j : insideOf (regsShifted sh r₂) h′ slot′ ≡ insideOf r₂ h′ slot′ = shift-inside sh r₂ h′ slot′ .0 in
+      let j : insideOf (regsResponded sh r₂) h′ slot′ ≡ insideOf r₂ h′ slot′ = response-inside sh r₂ h′ slot′ .0 in
       let m : putIn (s .effect .put) (insideOf r₂ h′ (slotOf r t d)) ≡ insideOf r₂ h′ slot′
-      = seen-slot r t d (s .effect .put) (insideOf r₂ h′ (slotOf r t d)) (regsShifted sh r₂ .drive .disk) l (shift-inside sh r₂ h′ slot′ .1 ∙ same .flag) refl in
-      let f : frontOf (regsShifted sh r₂) (transferWith sh x) ≡ shifted sh (frontOf r x)
-      = seen-shift sh r₂ x (same .few (possible r (possible-in x r ok) .fill-in)) (same .long seven) ∙ ap (shifted sh) (same .front x) in
+      = seen-slot r t d (s .effect .put) (insideOf r₂ h′ (slotOf r t d)) (regsResponded sh r₂ .drive .disk) l (response-inside sh r₂ h′ slot′ .1 ∙ same .flag) refl in
+      let f : frontOf (regsResponded sh r₂) (transferWith sh x) ≡ responded sh (frontOf r x)
+      = seen-response sh r₂ x (same .few (possible r (possible-in x r ok) .fill-in)) (same .long seven) ∙ ap (responded sh) (same .front x) in
       (refl, λ n. record { inside = (j ∙ sym m ∙ ap (putIn (s .effect .put)) i) n; front = f n })
 
   seen-sent : (f : Bool) → r .write .on ≡ f → Sees (leftOf (sent (settingOf d x) (insideOf r h (slotOf r t d)) b) r h t d x) (writePort (settingOf d x) (worldOf r h t d x) b)
   unfolding writePort
   seen-sent true e =
       let g : r .write .taken < length h = omega (arith, taken-few (r .write) (possible r (possible-in x r ok) .write-in) e, size-most (r .write .id .n)) in
-      seen-byte (sent (settingOf d x) (insideOf r h (slotOf r t d)) b) (Hold b) g (subst (Takes (Hold b)) (sent-data r b h t d x e) (data-takes _ b _ _ _ _ _)) (sent-lays r t d x h b)
+      seen-byte (sent (settingOf d x) (insideOf r h (slotOf r t d)) b) (Hold b) g (subst (Takes (Hold b)) (sent-data r b h t d x e) (data-takes _ b _ _)) (sent-lays r t d x h b)
   seen-sent false e =
       let g : r .count < length (r .command) = omega (arith, count-few r (possible-in x r ok)) in
-      seen-byte (sent (settingOf d x) (insideOf r h (slotOf r t d)) b) (Add b) g (subst (Takes (Add b)) (sent-command r b h t d x e) (command-takes _ b _ _ _ _)) (sent-lays r t d x h b)
+      seen-byte (sent (settingOf d x) (insideOf r h (slotOf r t d)) b) (Add b) g (subst (Takes (Add b)) (sent-command r b h t d x e) (command-takes _ b _ _ _)) (sent-lays r t d x h b)
 
   -- a byte sent leaves what the machine's step says of the boxes seen
   pub write-seen : Sees (dataWrite r b h t d x) (writePort (settingOf d x) (worldOf r h t d x) b)
@@ -322,12 +334,12 @@ module _ (r : Regs) (b : ℕ) (h t d x : List ℕ) (ok : impossibleIn x r ≡ fa
       subst (λ (z : Result Sent). Sees (leftOf z r h t d x) (writePort (settingOf d x) (worldOf r h t d x) b)) (sent-right r b h t d x ok) (seen-sent (r .write .on) refl)
 
 -- numbers that no controller has are refusal 1, and change nothing
-pub write-refused : (r : Regs) (b : ℕ) (h t d x : List ℕ) → impossibleIn x r ≡ true → dataWrite r b h t d x ≡ left (record { done = finished.Refused BadController; regs = r }) h t d x
+pub write-refused : (r : Regs) (b : ℕ) (h t d x : List ℕ) → impossibleIn x r ≡ true → dataWrite r b h t d x ≡ left (declined BadController r) h t d x
 unfolding dataWrite sentTo leftOf
 write-refused r b h t d x e = rw e
 
 -- whether a disk is in, seen: whether there is one in the drive
-pub disk-told : (r : Regs) (h t d x : List ℕ) → impossible r ≡ false → diskIn r ≡ flag.Of (ready (worldOf r h t d x .inside .slot))
+pub disk-told : (r : Regs) (h t d x : List ℕ) → impossible r ≡ false → diskIn r ≡ flag.Of (ready (worldOf r h t d x .inside .drives .first .slot))
 unfolding diskIn insideOf
 disk-told r h t d x ok = rw ok (ap flag.Of (is-in (r .drive .disk) (diskOf t d)))
   where

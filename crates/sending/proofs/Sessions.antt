@@ -6,21 +6,24 @@ use mathlib.Core.List.{List, [], _∷_, _++_}
 use lib.ListN.{length, replicate}
 use lib.Dec.{eqb}
 use Rattle.buffer.specs.Same.{sameBytes}
-use Rattle.fields.specs.Bytes.{numberAt, textAt}
+use Rattle.fields.specs.Bytes.{numberAt, textAt, withBit}
+use Rattle.fields.specs.Capacities.{mostData, mostTransfer}
 use Rattle.fields.specs.Refusals.{Result, refused, good, numberOf}
 use Rattle.fields.specs.Model.{sizeOf, total}
 use Rattle.image.specs.Dsk.{Dsk, entries, headerOf, entryOf, tracksFrom, dskOf}
 use Rattle.image.specs.Dsk as dsk
+use Rattle.tracks.specs.Rows.{idsFrom}
 use Rattle.store.specs.Find.{findFrom}
 use Rattle.store.specs.Search.{sectorAt, runFrom, readAt}
 use Rattle.store.specs.Store.{contents}
-use Rattle.store.specs.Fresh.{blanksFrom, formatted, freshFrom, fresh}
+use Rattle.store.specs.Fresh.{blanks, formatted, freshFrom, fresh}
 use Rattle.store.specs.Calls.{within}
 use Rattle.disk.specs.Change.{change, insert, sortOnto, sorted, setTrack}
-use Rattle.registers.specs.Boxes.{Setting, Slot, Empty, Holds, World, newWorld, taken, changed, allChanged, putIn, interrupted, shifted}
-use Rattle.kinds.specs.Table.{maskRows, rows, kindBy, kindOf}
+use Rattle.disk.specs.Calls.{endOf}
+use Rattle.registers.specs.Boxes.{Setting, Slot, Empty, Holds, World, newWorld, named, taken, changed, allChanged, putIn, interrupted, responded}
+use Rattle.codes.specs.Table.{maskRows, rows, commandBy, commandOf}
 use Rattle.registers.specs.Ports.{status, polled, afterStatus, given, readFrom, portByte, afterRead, changeDisk}
-use Rattle.commands.specs.Commands.{missing, withBit, senseDrive, seekIf, endOf, markOf, readReply, servedAs, readData, formatTrack, obeyed}
+use Rattle.commands.specs.Commands.{missing, senseIf, seekIf, markOf, readReply, servedAs, readData, formatTrack, obeyed}
 use Rattle.sending.specs.Machine.{commandIf, commandByte, byteFor, sent, done, writePort}
 
 -- a call: a byte sent, a status read and what it shows, a data-port read and what it gives
@@ -29,16 +32,16 @@ pub data Call : Type 0 where
   shows : ℕ → Call
   gives : ℕ → Call
 
--- a row: a new controller with a drive and calls; a size by n; an image that is refused with a number, or loaded with so many tracks
-pub data Row : Type 0 where
-  session : Slot → List Call → Row
-  size : ℕ → ℕ → Row
-  refuses : List ℕ → ℕ → Row
-  loads : List ℕ → ℕ → Row
+-- a case: a new controller with a drive and calls; a size by n; an image that is refused with a number, or loaded with so many tracks
+pub data Case : Type 0 where
+  session : Slot → List Call → Case
+  size : ℕ → ℕ → Case
+  refuses : List ℕ → ℕ → Case
+  loads : List ℕ → ℕ → Case
 
 -- all the room that there can be
 abbrev pub ample : Setting
-ample = record { room = 1048576; transfer = 65536 }
+ample = record { room = mostData; transfer = mostTransfer }
 
 unfoldable pub plays : List Call → World → Bool
 plays [] w = true
@@ -54,13 +57,13 @@ unfoldable pub hasTracks : Result Dsk → ℕ → Bool
 hasTracks (refused why) n = false
 hasTracks (good d) n = eqb (length (d .disk)) n
 
-unfoldable pub holds : Row → Bool
+unfoldable pub holds : Case → Bool
 holds (session slot calls) = plays calls (changeDisk slot newWorld)
 holds (size n expected) = eqb (sizeOf n) expected
 holds (refuses image n) = isRefused (dskOf image) n
 holds (loads image n) = hasTracks (dskOf image) n
 
-unfoldable pub allHold : List Row → Bool
+unfoldable pub allHold : List Case → Bool
 allHold [] = true
 allHold (x ∷ xs) = elim (holds x) [ true ↦ allHold xs | false ↦ false ]
 
@@ -81,7 +84,7 @@ unfoldable pub normal : ℕ → List ℕ
 normal n = 0x4D ∷ 0x56 ∷ 0x20 ∷ 0x2D ∷ 0x20 ∷ 0x43 ∷ 0x50 ∷ 0x43 ∷ replicate (n - 8) 0
 
 -- the table of 01, in its order
-unfoldable pub table : List Row
+unfoldable pub table : List Case
 table =
     session freshIn (shows 0x80 ∷ gives 0x00 ∷ [])
     ∷ session freshIn (sends 0x04 ∷ shows 0x90 ∷ sends 0x00 ∷ gives 0x38 ∷ [])
@@ -102,5 +105,5 @@ table =
 
 -- every row holds
 pub sessions-hold : allHold table ≡ true
-unfolding maskRows sameBytes numberAt textAt sizeOf total entries headerOf entryOf tracksFrom dskOf dsk.kindOf findFrom sectorAt runFrom readAt contents blanksFrom formatted freshFrom fresh within change insert sortOnto sorted setTrack newWorld taken changed allChanged putIn interrupted shifted rows kindBy kindOf status polled afterStatus given readFrom portByte afterRead changeDisk missing withBit senseDrive seekIf endOf markOf readReply servedAs readData formatTrack obeyed commandIf commandByte byteFor sent done writePort plays isRefused hasTracks holds allHold send give normal table
+unfolding maskRows sameBytes numberAt textAt sizeOf total entries headerOf entryOf tracksFrom dskOf dsk.imageKind findFrom sectorAt runFrom readAt contents idsFrom blanks formatted freshFrom fresh within change insert sortOnto sorted setTrack newWorld named taken changed allChanged putIn interrupted responded rows commandBy commandOf status polled afterStatus given readFrom portByte afterRead changeDisk missing withBit senseIf seekIf endOf markOf readReply servedAs readData formatTrack obeyed commandIf commandByte byteFor sent done writePort plays isRefused hasTracks holds allHold send give normal table
 sessions-hold = refl

@@ -1,14 +1,22 @@
 -- What a byte sent answers and leaves. `proofs/Seen.antt` proves that this, seen as boxes, is the machine.
 use Prim.Native.Nat.{ℕ}
 use mathlib.Core.Bool.{not}
-use mathlib.Core.List.{List}
+use mathlib.Core.List.{List, [], _∷_, _++_}
+use lib.ListN.{take}
 use Rattle.fields.specs.Refusals.{Result, need}
 use Rattle.fields.specs.declared.refusal.Refusal.the-variants.{BadController}
 use Rattle.registers.specs.declared.regs.Regs.{Regs}
 use Rattle.registers.specs.Boxes.{Sent}
-use Rattle.registers.specs.View.{settingOf, slotOf, insideOf, impossibleIn}
-use Rattle.sending.specs.Machine.{sent}
+use Rattle.registers.specs.View.{settingOf, writingOf, slotOf, drivesOf, insideOf, impossibleIn}
+use Rattle.sending.specs.Machine.{commandByte, dataByte, sent}
 use Rattle.commands.specs.Lent.{Left, leftOf}
+
+-- what the machine says of a byte of a command, and of a byte of a write, by the boxes that are seen
+abbrev pub commandHere : Regs → ℕ → List ℕ → List ℕ → List ℕ → Result Sent
+commandHere r b t d x = commandByte (settingOf d x) b (take (r .count) (r .command) ++ (b ∷ [])) (drivesOf r t d) (r .index)
+
+abbrev pub dataHere : Regs → ℕ → List ℕ → List ℕ → List ℕ → List ℕ → Result Sent
+dataHere r b h t d x = dataByte (settingOf d x) b (writingOf (r .write) (take (r .write .taken) h ++ (b ∷ []))) (drivesOf r t d)
 
 -- 1, or what the machine says of the boxes that are seen
 unfoldable pub sentTo : Regs → ℕ → List ℕ → List ℕ → List ℕ → List ℕ → Result Sent

@@ -1,42 +1,40 @@
 // A write in progress, and a byte sent.
+use codes::St0;
+use codes::bytes_for;
+use codes::command_of;
+use codes::head_of;
 use commands::run_cmd;
 use disk::Saved;
 use fields::Refusal;
 use fields::St1;
-use kinds::St0;
-use kinds::bytes_for;
-use kinds::kind_of;
+use registers::Receipt;
 use registers::Regs;
 use registers::Written;
-use store::Done;
 ghost use mathlib.Core.Path.{_≡_};
-ghost use mathlib.Core.List.{List, _∷_, [], _++_};
+ghost use mathlib.Core.List.{List};
 ghost use Prim.Native.Nat.{ℕ, _<_, _≤_};
-ghost use lib.ListN.{length, take};
+ghost use lib.ListN.{length};
+ghost use Rattle.fields.specs.Capacities.{mostHeld};
 ghost use Rattle.fields.specs.Model.{sizeOf};
-ghost use Rattle.store.specs.Store.{roomOf};
-ghost use Rattle.registers.specs.View.{settingOf, slotOf};
-ghost use Rattle.commands.specs.Commands.{written};
-ghost use Rattle.commands.specs.Lent.{Stored, left, leftOf};
-ghost use Rattle.sending.specs.Machine.{commandByte, dataByte};
-ghost use Rattle.sending.specs.Calls.{dataWrite};
+ghost use Rattle.commands.specs.Lent.{Stores, writtenHere, left, leftOf};
+ghost use Rattle.sending.specs.Calls.{commandHere, dataHere, dataWrite};
 
 // The last byte of a write is held: the reply, and the sector in the store.
 fn finish_write(regs: Regs, held: &[u8], table: &mut [u8], bytes: &mut [u8]) -> Written
-    requires { ⌜ length (now held) ≤ 1024 ⌝ }
-    ensures { λ r. ⌜ Stored (written (roomOf (now (bytes .entry))) (regs .write .c1) (regs .write .id) (now (held .entry)) (regs .drive .cylinder) (slotOf regs (now (table .entry)) (now (bytes .entry)))) regs (now (table .entry)) (now (bytes .entry)) r (now (table .exit)) (now (bytes .exit)) ⌝ }
+    requires { ⌜ length (now held) ≤ mostHeld ⌝ }
+    ensures { λ r. ⌜ ((x : List ℕ) → Stores (writtenHere (now (held .entry)) regs (now (table .entry)) (now (bytes .entry)) x)
+        regs (now (table .entry)) (now (bytes .entry)) r (now (table .exit)) (now (bytes .exit))) ⌝ }
 {
-    let d = regs.drive;
-    let p = regs.write;
-    let c1 = p.c1;
-    let id = p.id;
+    let c1 = regs.write.c1;
+    let id = regs.write.id;
+    let d = regs.named(c1);
     let a = regs.finished()
-        .reply7(St0::from_c1(c1) + St0::FAIL, St1::END_OF_CYLINDER, 0, id);
+        .reply7(St0::from_c1(c1) + St0::FAIL, St1::END_OF_CYLINDER, 0, id)
+        .done();
     if !d.disk {
         return a;
     }
-    let head = c1 / 4 % 2;
-    match disk::save(table, bytes, head, d.cylinder, id, held) {
+    match disk::save(table, bytes, head_of(c1), d.cylinder, id, held) {
         Saved::Refused(why) => regs.refused(why),
         Saved::Missing => a,
         Saved::Good => a,
@@ -45,8 +43,10 @@ fn finish_write(regs: Regs, held: &[u8], table: &mut [u8], bytes: &mut [u8]) -> 
 
 // A byte of a write in progress: the last one has it saved.
 fn data_byte(regs: Regs, b: u8, held: &mut [u8], table: &mut [u8], bytes: &mut [u8]) -> Written
-    requires { ⌜ (length (now held) ≡ 1024) × (regs .write .taken < sizeOf (regs .write .id .n)) ⌝ }
-    ensures { λ r. ⌜ ((x : List ℕ) → left r (now (held .exit)) (now (table .exit)) (now (bytes .exit)) x ≡ leftOf (dataByte (settingOf (now (bytes .entry)) x) b (regs .write .c1) (regs .write .id) (take (regs .write .taken) (now (held .entry)) ++ (b ∷ [])) (regs .drive .cylinder) (slotOf regs (now (table .entry)) (now (bytes .entry)))) regs (now (held .entry)) (now (table .entry)) (now (bytes .entry)) x) ⌝ }
+    requires { ⌜ (length (now held) ≡ mostHeld) × (regs .write .taken < sizeOf (regs .write .id .n)) ⌝ }
+    ensures { λ r. ⌜ ((x : List ℕ) → left r (now (held .exit)) (now (table .exit)) (now (bytes .exit)) x
+        ≡ leftOf (dataHere regs b (now (held .entry)) (now (table .entry)) (now (bytes .entry)) x)
+        regs (now (held .entry)) (now (table .entry)) (now (bytes .entry)) x) ⌝ }
 {
     let p = regs.write;
     let id = p.id;
@@ -59,10 +59,10 @@ fn data_byte(regs: Regs, b: u8, held: &mut [u8], table: &mut [u8], bytes: &mut [
         return r.done();
     }
     let a = finish_write(r, &held[..end], table, bytes);
-    let done = a.done;
-    match done {
-        Done::Good => a,
-        Done::Refused(why) => {
+    let receipt = a.receipt;
+    match receipt {
+        Receipt::Good => a,
+        Receipt::Refused(why) => {
             held[at] = was;
             regs.refused(why)
         }
@@ -78,15 +78,17 @@ fn maybe_run_cmd(
     transfer: &mut [u8],
 ) -> Written
     requires { ⌜ regs .count < 9 ⌝ }
-    ensures { λ r. ⌜ ((h : List ℕ) → left r h (now (table .exit)) (now (bytes .exit)) (now (transfer .exit)) ≡ leftOf (commandByte (settingOf (now (bytes .entry)) (now (transfer .entry))) b (take (regs .count) (regs .command) ++ (b ∷ [])) (regs .drive .cylinder) (regs .index) (slotOf regs (now (table .entry)) (now (bytes .entry)))) regs h (now (table .entry)) (now (bytes .entry)) (now (transfer .entry))) ⌝ }
+    ensures { λ r. ⌜ ((h : List ℕ) → left r h (now (table .exit)) (now (bytes .exit)) (now (transfer .exit))
+        ≡ leftOf (commandHere regs b (now (table .entry)) (now (bytes .entry)) (now (transfer .entry)))
+        regs h (now (table .entry)) (now (bytes .entry)) (now (transfer .entry))) ⌝ }
 {
     let r = regs.added(b);
     let command = r.command;
-    let kind = kind_of(command[0]);
-    if r.count != bytes_for(kind) {
+    let which = command_of(command[0]);
+    if r.count != bytes_for(which) {
         return r.done();
     }
-    regs.kept(run_cmd(r.cleared(), kind, command, table, bytes, transfer))
+    regs.kept(run_cmd(r.cleared(), which, command, table, bytes, transfer))
 }
 
 // A byte sent: one of a write in progress, or else of a command.
@@ -98,8 +100,9 @@ pub fn write_cmd(
     bytes: &mut [u8],
     transfer: &mut [u8],
 ) -> Written
-    requires { ⌜ length (now held) ≡ 1024 ⌝ }
-    ensures { λ r. ⌜ left r (now (held .exit)) (now (table .exit)) (now (bytes .exit)) (now (transfer .exit)) ≡ dataWrite regs b (now (held .entry)) (now (table .entry)) (now (bytes .entry)) (now (transfer .entry)) ⌝ }
+    requires { ⌜ length (now held) ≡ mostHeld ⌝ }
+    ensures { λ r. ⌜ left r (now (held .exit)) (now (table .exit)) (now (bytes .exit)) (now (transfer .exit))
+        ≡ dataWrite regs b (now (held .entry)) (now (table .entry)) (now (bytes .entry)) (now (transfer .entry)) ⌝ }
 {
     if regs.impossible_in(transfer) {
         return regs.refused(Refusal::BadController);

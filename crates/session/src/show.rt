@@ -5,17 +5,6 @@ use crate::print::put;
 use crate::print::text;
 ghost use Prim.Native.Nat.{_+_, _*_, _<_, _≤_};
 
-// Past the rows of any table.
-const ROWS_END: usize = 17609;
-
-// How often a sector's size goes into what it stores, 0 where that leaves a remainder.
-fn copies(stored: usize, size: usize) -> usize {
-    if size == 0 || stored % size != 0 {
-        return 0;
-    }
-    stored / size
-}
-
 // The numbers that stand one behind another in the table.
 fn fields(table: &[u8], from: usize, count: usize, out: &mut Out) {
     let bytes = buffer::part(table, from, count);
@@ -35,7 +24,7 @@ fn sector(table: &[u8], at: usize, out: &mut Out)
     text(b"sector", out);
     fields(table, at, 6, out);
     field(stored as u64, out);
-    field(copies(stored, id.len()) as u64, out);
+    field(id.copies(stored) as u64, out);
     put(b'\n', out);
 }
 
@@ -79,7 +68,7 @@ pub fn disk(table: &[u8], out: &mut Out) {
     let mut left = fields::byte(table, 0);
     let mut at: usize = 1;
     while 0 < left {
-        if ROWS_END <= at {
+        if store::TABLE <= at {
             return;
         }
         let count = fields::byte(table, at + 5);

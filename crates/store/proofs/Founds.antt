@@ -14,11 +14,12 @@ use Rattle.fields.specs.Model.{Sector, Track, Disk}
 use Rattle.tracks.specs.Block.{rowAt, sectorOf}
 use Rattle.fields.specs.declared.id.SectorId.{SectorId}
 use Rattle.fields.specs.declared.refusal.Refusal.the-variants.{BadStore}
+use Rattle.fields.proofs.Tests.{never}
 use Rattle.store.specs.Find.{Found, nothing, found, findFrom, headFrom, nth}
 use Rattle.store.specs.Search.{isTrack, isSector, inTrack, sectorAt, byIndex, greatest, isSide0}
-use Rattle.store.specs.Calls.{bytesOf, lookupOf, foundOf, hasOf, geometryOf}
+use Rattle.store.specs.Calls.{contentOf, lookupOf, foundOf, hasOf, geometryOf}
 use Rattle.store.specs.Store.{tableLength, roomOf, sectorsAt, sumAt, countAt, nextAt, trackSum, trackAt, tracksAt, bytesAt, wellLaid, diskOf}
-use Rattle.store.specs.Spots.{endAt, trackHere, trackSpot, rowHere, sectorSpot, spotIn, storeSpot, turned, indexSpot, cylindersAt, Walkable, placed, searched, Within, Located}
+use Rattle.store.specs.Spots.{endAt, trackHere, trackSpot, rowHere, sectorSpot, spotIn, storeSpot, turned, indexSpot, cylindersAt, Walkable, standsAt, searched, Within, Located, Placed, placeAt, placeOf}
 use Rattle.store.specs.declared.find.Spot.{Spot}
 use Rattle.store.specs.declared.find.Spot.the-variants.{Nothing, At}
 use Rattle.store.specs.declared.find.Turned.{Turned}
@@ -30,7 +31,8 @@ use Rattle.store.specs.declared.answer.Has.the-variants as has
 use Rattle.store.specs.declared.answer.Geometry.{Geometry}
 use Rattle.store.specs.declared.answer.Geometry.the-variants as geometry
 use Rattle.store.proofs.Sums.{end-is}
-use Rattle.store.proofs.Checks.{kept, walkable, disk-bad, disk-good}
+use Rattle.store.proofs.Checks.{room-in, kept, walkable, disk-bad, disk-good}
+use Rattle.fields.specs.Capacities.{mostData}
 
 -- a function of a choice is the choice of what it answers
 cond-map : {A B : Type 0} (f : A → B) (b : Bool) (x y : A) → cond b (f x) (f y) ≡ f (cond b x y)
@@ -87,7 +89,7 @@ module _ (t : List ℕ) where
   pub track-in : (side cylinder i at place k j a p : ℕ) → trackSpot t side cylinder i at place k ≡ At j a p
       → (nextAt t a ≤ endAt t at k) × (p + trackSum t a ≤ place + bytesAt t at k)
   unfolding trackSpot endAt bytesAt
-  track-in side cylinder i at place zero j a p e = let z : _≡_ {A = ℕ} 0 1 = cc in absurd (omega arith)
+  track-in side cylinder i at place zero j a p e = never (cc)
   track-in side cylinder i at place (suc k) j a p e =
       told (trackHere t side cylinder at) e (track-in side cylinder (i + 1) (nextAt t at) (place + trackSum t at) k j a p)
     where
@@ -105,7 +107,7 @@ module _ (t : List ℕ) where
   pub row-in : (id : SectorId) (i at place k j a p : ℕ) → sectorSpot t id i at place k ≡ At j a p
       → (a + 8 ≤ at + 8 * k) × (p + rowAt t a .stored ≤ place + sumAt t at k)
   unfolding sectorSpot sumAt
-  row-in id i at place zero j a p e = let z : _≡_ {A = ℕ} 0 1 = cc in absurd (omega arith)
+  row-in id i at place zero j a p e = never (cc)
   row-in id i at place (suc k) j a p e =
       told (rowHere t id at) e (row-in id (i + 1) (at + 8) (place + rowAt t at .stored) k j a p)
     where
@@ -121,7 +123,7 @@ module _ (t : List ℕ) where
 
   -- the rows of a track that was found
   module _ (side cylinder i a p n : ℕ) (e : At i a p ≡ trackSpot t side cylinder 0 1 0 (byteAt t 0)) (c : n ≡ countAt t a) where
-    pub track-rows : Walkable t → (a + 6 + 8 * n ≤ tableLength) × (p + sumAt t (a + 6) n ≤ 1048576)
+    pub track-rows : Walkable t → (a + 6 + 8 * n ≤ tableLength) × (p + sumAt t (a + 6) n ≤ mostData)
     track-rows w =
         let h = track-in side cylinder 0 1 0 (byteAt t 0) i a p (sym e) in
         rw c (omega (arith, h .0, w .ends), omega (arith, h .1, w .total))
@@ -143,7 +145,7 @@ module _ (t : List ℕ) where
     where
       told : (s : Spot) → trackSpot t side cylinder 0 1 0 (byteAt t 0) ≡ s → spotIn t id s ≡ At i a p
           → (a + 8 ≤ tableLength) × (p + rowAt t a .stored ≤ bytesAt t 1 (byteAt t 0))
-      told Nothing f q = let z : _≡_ {A = ℕ} 0 1 = cc in absurd (omega arith)
+      told Nothing f q = never (cc)
       told (At j x y) f q =
           let h = track-in side cylinder 0 1 0 (byteAt t 0) j x y f in
           let g = row-in id 0 (x + 6) y (countAt t x) i a p q in
@@ -187,40 +189,48 @@ module _ (t b : List ℕ) where
 
 -- ---- what `locate` answers
 
+-- a store that is refused, and one that is searched
 module _ (t b : List ℕ) (side cylinder : ℕ) (id : SectorId) where
-  pub located-bad : wellLaid t (roomOf b) ≡ false → Located t b side cylinder id (place.Refused BadStore)
-  located-bad e = record { says = rw (disk-bad t b e); within = tt; stands = rw e }
+  pub place-bad : wellLaid t (roomOf b) ≡ false → place.Refused BadStore ≡ placeOf t b side cylinder id
+  unfolding placeOf
+  place-bad e = rw e
+
+  pub place-found : (s : Spot) → wellLaid t (roomOf b) ≡ true → s ≡ storeSpot t side cylinder id → placeAt t s ≡ placeOf t b side cylinder id
+  unfolding placeOf
+  place-found s e f = rw e (ap (placeAt t) f)
 
   module _ (e : wellLaid t (roomOf b) ≡ true) where
     spot-says : (s : Spot) → s ≡ storeSpot t side cylinder id → good (rowAtSpot t b s) ≡ searched (diskOf t b) side cylinder id
     spot-says s f = rw (disk-good t b e) (ap (λ (x : Spot). good (rowAtSpot t b x)) f ∙ ap good (sym (sector-found t b side cylinder id)))
 
-    pub located-none : Nothing ≡ storeSpot t side cylinder id → Located t b side cylinder id place.Nothing
-    located-none f = record { says = spot-says Nothing f; within = tt; stands = rw e f }
+    -- a row that was found lies inside the table, and its bytes inside the data room
+    pub part-inside : (i a p : ℕ) → At i a p ≡ storeSpot t side cylinder id → Placed t b a p (p + rowAt t a .stored) (bytesAt t 1 (byteAt t 0))
+    part-inside i a p f =
+        let w = walkable t b e in
+        let h = spot-in t side cylinder id i a p w f in
+        let l = kept t (roomOf b) e in
+        record { row-inside = omega (arith, h .0, w .long); bytes = refl; bytes-inside = h .1; all = refl; all-inside = l .bytes }
 
-    module _ (i a p : ℕ) (f : At i a p ≡ storeSpot t side cylinder id) where
-      -- a row that was found lies inside the table, and its bytes inside the data room
-      pub part-inside : (a + 8 ≤ length t) × ((p + rowAt t a .stored ≤ length b) × (p + rowAt t a .stored ≤ 1048576))
-      unfolding roomOf
-      part-inside =
-          let w = walkable t b e in
-          let h = spot-in t side cylinder id i a p w f in
-          let l = kept t (roomOf b) e in
-          (omega (arith, h .0, w .long), (omega (arith, h .1, l .bytes), omega (arith, h .1, l .bytes)))
+    located-at : (s : Spot) → s ≡ storeSpot t side cylinder id → Located t b side cylinder id (placeAt t s)
+    located-at Nothing f = record { says = spot-says Nothing f; within = tt }
+    located-at (At i a p) f = record { says = spot-says (At i a p) f; within = part-inside i a p f }
 
-      pub located-part : (n : ℕ) → n ≡ rowAt t a .stored → Located t b side cylinder id (place.Part i a p (p + n))
-      located-part n q = record {
-        says = spot-says (At i a p) f;
-        within = (part-inside .0, ap (λ (m : ℕ). p + m) q, rw q (part-inside .1 .0));
-        stands = rw e f;
-      }
+  -- so a place that it answers is within the store, and what stands there is what the search finds
+  pub located : (r : Place) → r ≡ placeOf t b side cylinder id → Located t b side cylinder id r
+  unfolding placeOf
+  located r e = subst (Located t b side cylinder id) (sym e) (told (wellLaid t (roomOf b)) refl)
+    where
+      told : (v : Bool) → wellLaid t (roomOf b) ≡ v
+          → Located t b side cylinder id (cond v (placeAt t (storeSpot t side cylinder id)) (place.Refused BadStore))
+      told true q = located-at q (storeSpot t side cylinder id) refl
+      told false q = record { says = rw (disk-bad t b q); within = tt }
 
 -- ---- what it says to a caller that took its answer apart
 
 -- what `lookup` and `has_sector` answer, by what a search of the store answers
 abbrev bytesFrom : Result (Found Sector) → List ℕ
 bytesFrom (refused why) = []
-bytesFrom (good x) = bytesOf x
+bytesFrom (good x) = contentOf x
 
 abbrev hasFrom : Result (Found Sector) → Has
 hasFrom (refused why) = has.Refused why
@@ -234,29 +244,28 @@ has-from : (r : Result Disk) (side cylinder : ℕ) (id : SectorId) → hasFrom (
 has-from (refused why) side cylinder id = refl
 has-from (good d) side cylinder id = refl
 
-module _ (t b : List ℕ) (side cylinder : ℕ) (id : SectorId) (r : Place) (l : Located t b side cylinder id r) where
-  pub part-within : (index row from to : ℕ) → r ≡ place.Part index row from to → Within t b (place.Part index row from to)
-  part-within index row from to e = subst (Within t b) e (l .within)
-
+module _ (t b : List ℕ) (side cylinder : ℕ) (id : SectorId) (r : Place) (l : r ≡ placeOf t b side cylinder id) where
   module _ (p : Place) (e : r ≡ p) where
-    said : placed t b p ≡ searched (diskOf t b) side cylinder id
-    said = ap (placed t b) (sym e) ∙ l .says
+    here : Located t b side cylinder id p
+    here = located t b side cylinder id p (sym e ∙ l)
 
-    pub said-bytes : bytesFrom (placed t b p) ≡ lookupOf (diskOf t b) side cylinder id
-    said-bytes = ap bytesFrom said ∙ bytes-from (diskOf t b) side cylinder id
+    pub said-bytes : bytesFrom (standsAt t b p) ≡ lookupOf (diskOf t b) side cylinder id
+    said-bytes = ap bytesFrom (here .says) ∙ bytes-from (diskOf t b) side cylinder id
 
-    pub said-has : hasFrom (placed t b p) ≡ hasOf (diskOf t b) side cylinder id
-    said-has = ap hasFrom said ∙ has-from (diskOf t b) side cylinder id
+    pub said-has : hasFrom (standsAt t b p) ≡ hasOf (diskOf t b) side cylinder id
+    said-has = ap hasFrom (here .says) ∙ has-from (diskOf t b) side cylinder id
 
-  pub part-in : (index row from to : ℕ) → r ≡ place.Part index row from to → (from ≤ to) × (to ≤ length b)
-  part-in index row from to e = let w : Within t b (place.Part index row from to) = part-within index row from to e in omega arith
+  module _ (index row from to end : ℕ) (e : r ≡ place.Part index row from to end) where
+    pub part-within : Placed t b row from to end
+    part-within = here (place.Part index row from to end) e .within
 
-  pub part-bytes : (index row from to : ℕ) → r ≡ place.Part index row from to
-      → take (to - from) (drop from b) ≡ lookupOf (diskOf t b) side cylinder id
-  part-bytes index row from to e =
-      let w : Within t b (place.Part index row from to) = part-within index row from to e in
-      let m : to - from ≡ rowAt t row .stored = omega arith in
-      rw m (said-bytes (place.Part index row from to) e)
+    pub part-in : (from ≤ to) × (to ≤ length b)
+    part-in = omega (arith, part-within, room-in b)
+
+    pub part-bytes : take (to - from) (drop from b) ≡ lookupOf (diskOf t b) side cylinder id
+    part-bytes =
+        let m : to - from ≡ rowAt t row .stored = omega (arith, part-within) in
+        rw m (said-bytes (place.Part index row from to end) e)
 
 -- ---- the greatest cylinders
 

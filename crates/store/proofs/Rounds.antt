@@ -13,8 +13,10 @@ use Rattle.fields.specs.Refusals.{good}
 use Rattle.fields.specs.Model.{Sector, Track, Disk, total, trackBytes, sectorCount, byteCount}
 use Rattle.tracks.specs.Block.{rowAt}
 use Rattle.tracks.specs.declared.track.Row.{Row}
-use Rattle.store.specs.Store.{tableLength, roomOf, rowFor, rowsFor, tracksFor, tableOf, contents, dataOf, sectorsAt, sumAt, countAt, nextAt, trackSum, trackAt, tracksAt, countsAt, bytesAt, diskOf}
+use Rattle.store.specs.Store.{tableLength, roomOf, tracksFor, tableOf, contents, dataOf, sectorsAt, sumAt, countAt, nextAt, trackSum, trackAt, tracksAt, countsAt, bytesAt, diskOf}
+use Rattle.tracks.specs.Rows.{rowFor, sectorRow, rowsFor}
 use Rattle.store.proofs.Checks.{Kept, well-laid, disk-good}
+use Rattle.fields.specs.Capacities.{mostTracks, mostSectors, mostData}
 
 -- ---- lengths
 
@@ -54,7 +56,7 @@ data-length (x ∷ d) = length-append (contents (x .sectors)) (dataOf d) ∙ ap�
 pub rows-before : (ss : List Sector) (r q : List ℕ) → rowsFor ss r ++ q ≡ rowsFor ss (r ++ q)
 unfolding rowsFor
 rows-before [] r q = refl
-rows-before (s ∷ ss) r q = ap (rowFor s) (rows-before ss r q)
+rows-before (s ∷ ss) r q = ap (rowFor (sectorRow s)) (rows-before ss r q)
 
 pub tracks-before : (d : Disk) (r q : List ℕ) → tracksFor d r ++ q ≡ tracksFor d (r ++ q)
 unfolding tracksFor
@@ -77,18 +79,15 @@ module _ (t : List ℕ) (at : ℕ) (u : List ℕ) (e : drop at t ≡ u) where
   next-back i = sym (drop-drop i at t) ∙ ap (drop i) e
 
 -- a sector's row
-abbrev pub rowOfSector : Sector → Row
-rowOfSector s = record { id = s .id; st1 = s .st1; st2 = s .st2; stored = length (s .content) }
-
-pub row-back : (t : List ℕ) (at : ℕ) (s : Sector) (r : List ℕ) → drop at t ≡ rowFor s r → rowAt t at ≡ rowOfSector s
+pub row-back : (t : List ℕ) (at : ℕ) (s : Sector) (r : List ℕ) → drop at t ≡ rowFor (sectorRow s) r → rowAt t at ≡ sectorRow s
 unfolding rowAt numberAt
 row-back t at s r e =
-    let b = byte-back t at (rowFor s r) e in
+    let b = byte-back t at (rowFor (sectorRow s) r) e in
     let seven : at + 6 + 1 ≡ at + 7 = omega arith in
     let z : byteAt t (at + 6 + 1) ≡ length (s .content) / 256 = ap (byteAt t) seven ∙ b 7 in
     let n : byteAt t (at + 6) + 256 * (byteAt t (at + 6 + 1) + 256 * 0) ≡ length (s .content) = omega (arith, b 6) in
     λ i. record {
-      id = record { c = first-back t at (rowFor s r) e i; h = b 1 i; r = b 2 i; n = b 3 i };
+      id = record { c = first-back t at (rowFor (sectorRow s) r) e i; h = b 1 i; r = b 2 i; n = b 3 i };
       st1 = record { bits = b 4 i };
       st2 = record { bits = b 5 i };
       stored = n i;
@@ -101,14 +100,14 @@ pub sum-back : (ss : List Sector) (t : List ℕ) (at : ℕ) (r : List ℕ) → d
 unfolding sumAt rowsFor total
 sum-back [] t at r e = refl
 sum-back (s ∷ ss) t at r e =
-    ap₂ _+_ (ap (λ (x : Row). x .stored) (row-back t at s (rowsFor ss r) e)) (sum-back ss t (at + 8) r (next-back t at (rowFor s (rowsFor ss r)) e 8))
+    ap₂ _+_ (ap (λ (x : Row). x .stored) (row-back t at s (rowsFor ss r) e)) (sum-back ss t (at + 8) r (next-back t at (rowFor (sectorRow s) (rowsFor ss r)) e 8))
 
 pub rows-after : (ss : List Sector) (t : List ℕ) (at : ℕ) (r : List ℕ) → drop at t ≡ rowsFor ss r → drop (at + 8 * length ss) t ≡ r
 unfolding rowsFor
 rows-after [] t at r e = let z : at + 8 * 0 ≡ at = omega arith in rw z e
 rows-after (s ∷ ss) t at r e =
     let z : at + 8 * length (s ∷ ss) ≡ at + 8 + 8 * length ss = omega arith in
-    rw z (rows-after ss t (at + 8) r (next-back t at (rowFor s (rowsFor ss r)) e 8))
+    rw z (rows-after ss t (at + 8) r (next-back t at (rowFor (sectorRow s) (rowsFor ss r)) e 8))
 
 -- bytes that stand at a place, and what follows them
 module _ (b : List ℕ) (place : ℕ) (c q : List ℕ) (e : drop place b ≡ c ++ q) (n : ℕ) (h : length c ≡ n) where
@@ -125,11 +124,11 @@ unfolding sectorsAt rowsFor contents
 sectors-back [] t b at place r q e f = refl
 sectors-back (s ∷ ss) t b at place r q e f =
     let g : drop place b ≡ s .content ++ (contents ss ++ q) = f ∙ append-assoc (s .content) (contents ss) q in
-    let w : rowAt t at ≡ rowOfSector s = row-back t at s (rowsFor ss r) e in
+    let w : rowAt t at ≡ sectorRow s = row-back t at s (rowsFor ss r) e in
     let c : take (length (s .content)) (drop place b) ≡ s .content = part-back b place (s .content) (contents ss ++ q) g (length (s .content)) refl in
     let k : drop (place + length (s .content)) b ≡ contents ss ++ q = part-after b place (s .content) (contents ss ++ q) g (length (s .content)) refl in
     let rest : sectorsAt t b (at + 8) (place + length (s .content)) (length ss) ≡ ss =
-    sectors-back ss t b (at + 8) (place + length (s .content)) r q (next-back t at (rowFor s (rowsFor ss r)) e 8) k in
+    sectors-back ss t b (at + 8) (place + length (s .content)) r q (next-back t at (rowFor (sectorRow s) (rowsFor ss r)) e 8) k in
     rw w (λ i. record { id = s .id; st1 = s .st1; st2 = s .st2; content = c i } ∷ rest i)
 
 -- ---- tracks
@@ -196,7 +195,7 @@ pub over-front : (l s : List ℕ) → over l 0 s ≡ s ++ drop (length s) l
 unfolding over
 over-front l s = let z : 0 + length s ≡ length s = omega arith in rw z
 
-module _ (t b : List ℕ) (d : Disk) (long : length t ≡ tableLength) (tracks : length d ≤ 204) (sectors : sectorCount d ≤ 2048) (bytes : byteCount d ≤ roomOf b) where
+module _ (t b : List ℕ) (d : Disk) (long : length t ≡ tableLength) (tracks : length d ≤ mostTracks) (sectors : sectorCount d ≤ mostSectors) (bytes : byteCount d ≤ roomOf b) where
   -- the table as it stands then
   table-laid : over t 0 (tableOf d) ≡ length d ∷ tracksFor d (drop (length (tableOf d)) t)
   unfolding tableOf
@@ -208,7 +207,7 @@ module _ (t b : List ℕ) (d : Disk) (long : length t ≡ tableLength) (tracks :
 
   pub room-kept : roomOf (over b 0 (dataOf d)) ≡ roomOf b
   unfolding roomOf
-  room-kept = ap (λ (n : ℕ). min n 1048576) (over-length b 0 (dataOf d) (omega (arith, data-length d)))
+  room-kept = ap (λ (n : ℕ). min n mostData) (over-length b 0 (dataOf d) (omega (arith, data-length d)))
 
   -- what is laid is read back
   pub laid-back : diskOf (over t 0 (tableOf d)) (over b 0 (dataOf d)) ≡ good d
@@ -230,8 +229,8 @@ module _ (t b : List ℕ) (d : Disk) (long : length t ≡ tableLength) (tracks :
 
 -- two disks that stand in one store are one
 pub holds-one : (t b : List ℕ) (d e : Disk) → length t ≡ tableLength
-    → length d ≤ 204 → sectorCount d ≤ 2048 → byteCount d ≤ roomOf b → t ≡ over t 0 (tableOf d) → b ≡ over b 0 (dataOf d)
-    → length e ≤ 204 → sectorCount e ≤ 2048 → byteCount e ≤ roomOf b → t ≡ over t 0 (tableOf e) → b ≡ over b 0 (dataOf e)
+    → length d ≤ mostTracks → sectorCount d ≤ mostSectors → byteCount d ≤ roomOf b → t ≡ over t 0 (tableOf d) → b ≡ over b 0 (dataOf d)
+    → length e ≤ mostTracks → sectorCount e ≤ mostSectors → byteCount e ≤ roomOf b → t ≡ over t 0 (tableOf e) → b ≡ over b 0 (dataOf e)
     → d ≡ e
 holds-one t b d e l n s c x y n′ s′ c′ x′ y′ =
     let p : diskOf t b ≡ good d = held t b d l n s c x y in

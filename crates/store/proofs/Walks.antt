@@ -18,6 +18,7 @@ use Rattle.store.specs.declared.find.Spot.the-variants.{Nothing, At}
 use Rattle.store.specs.declared.find.Turned.the-variants.{Empty, Row}
 use Rattle.store.specs.declared.answer.Geometry.the-variants.{Of}
 use Rattle.store.proofs.Sums.{down-none, sum-step, bytes-step, end-step, within, track-sum}
+use Rattle.fields.specs.Capacities.{mostData}
 
 -- ---- tracks
 
@@ -36,7 +37,7 @@ module _ (t : List ℕ) (side cylinder i at place : ℕ) where
 -- what the search for a track knows at its head
 pub record TrackWalk (t : List ℕ) (side cylinder left index at place : ℕ) : Type 0 where
   pub ends : endAt t at left ≤ tableLength
-  pub total : place + bytesAt t at left ≤ 1048576
+  pub total : place + bytesAt t at left ≤ mostData
   pub few : index + left < 256
   pub spot : trackSpot t side cylinder index at place left ≡ trackSpot t side cylinder 0 1 0 (byteAt t 0)
 
@@ -51,7 +52,7 @@ module _ (t : List ℕ) (side cylinder : ℕ) where
 
   module _ (left index at place : ℕ) (w : TrackWalk t side cylinder left index at place) where
     -- the track at hand ends inside the table, and its bytes among those that were counted
-    pub track-inside : 0 < left → (nextAt t at ≤ tableLength) × (place + trackSum t at ≤ 1048576)
+    pub track-inside : 0 < left → (nextAt t at ≤ tableLength) × (place + trackSum t at ≤ mostData)
     track-inside h = (within t at left tableLength h (w .ends), omega (arith, bytes-step t at left h, w .total))
 
     pub track-again : (n b : ℕ) → 0 < left → n ≡ countAt t at → b ≡ sumAt t (at + 6) n → trackHere t side cylinder at ≡ false
@@ -88,18 +89,18 @@ module _ (t : List ℕ) (id : SectorId) (i at place : ℕ) where
 -- what the search for a row knows at its head
 pub record RowWalk (t : List ℕ) (id : SectorId) (start first count left index at place : ℕ) : Type 0 where
   pub ends : at + 8 * left ≤ tableLength
-  pub total : place + sumAt t at left ≤ 1048576
+  pub total : place + sumAt t at left ≤ mostData
   pub few : index + left < 256
   pub spot : sectorSpot t id index at place left ≡ sectorSpot t id 0 start first count
 
 module _ (t : List ℕ) (id : SectorId) (start first count : ℕ) where
-  pub row-start : (start + 8 * count ≤ tableLength) × ((count < 256) × (first + sumAt t start count ≤ 1048576))
+  pub row-start : (start + 8 * count ≤ tableLength) × ((count < 256) × (first + sumAt t start count ≤ mostData))
       → RowWalk t id start first count count 0 start first
   row-start h = record { ends = h .0; total = h .1 .1; few = omega arith; spot = refl }
 
   module _ (left index at place : ℕ) (w : RowWalk t id start first count left index at place) where
     -- the row at hand has its bytes among those that were counted
-    pub row-inside : 0 < left → place + rowAt t at .stored ≤ 1048576
+    pub row-inside : 0 < left → place + rowAt t at .stored ≤ mostData
     row-inside h = omega (arith, sum-step t at left h, w .total)
 
     pub row-again : (v : ℕ) → 0 < left → v ≡ rowAt t at .stored → rowHere t id at ≡ false

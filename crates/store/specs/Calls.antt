@@ -6,6 +6,7 @@ use lib.ListN.{length}
 use lib.Dec.{eqb, leb}
 use Rattle.buffer.specs.Over.{over}
 use Rattle.fields.specs.Refusals.{Result, refused, good, need, after}
+use Rattle.fields.specs.Capacities.{mostTracks, mostSectors}
 use Rattle.fields.specs.Model.{Sector, Disk, sectorCount, byteCount}
 use Rattle.image.specs.Dsk.{dskOf}
 use Rattle.fields.specs.declared.id.SectorId.{SectorId}
@@ -27,14 +28,14 @@ use Rattle.store.specs.declared.answer.Done.the-variants as done
 -- ---- Looking
 
 -- the bytes of a sector that was found, none where there is none
-abbrev pub bytesOf : Found Sector → List ℕ
-bytesOf nothing = []
-bytesOf (found i s) = s .content
+abbrev pub contentOf : Found Sector → List ℕ
+contentOf nothing = []
+contentOf (found i s) = s .content
 
 -- lookup by address: empty where none is found or 2 applies
 abbrev pub lookupOf : Result Disk → ℕ → ℕ → SectorId → List ℕ
 lookupOf (refused why) side cylinder id = []
-lookupOf (good d) side cylinder id = bytesOf (sectorAt d side cylinder id)
+lookupOf (good d) side cylinder id = contentOf (sectorAt d side cylinder id)
 
 -- whether a sector was found
 abbrev pub foundOf : Found Sector → Has
@@ -57,9 +58,9 @@ namedOf nothing = named.Missing
 namedOf (found i s) = named.Of (s .id)
 
 -- `id_by_idx`: 2, missing, or the ID of the sector with an index, counted round the track
-abbrev pub idOf : Result Disk → ℕ → ℕ → ℕ → IdFound
-idOf (refused why) side cylinder i = named.Refused why
-idOf (good d) side cylinder i = namedOf (sectorByIndex d side cylinder i)
+abbrev pub idByIndex : Result Disk → ℕ → ℕ → ℕ → IdFound
+idByIndex (refused why) side cylinder i = named.Refused why
+idByIndex (good d) side cylinder i = namedOf (sectorByIndex d side cylinder i)
 
 -- ---- Changing
 
@@ -78,7 +79,7 @@ laid t b r = laidAs done.Refused done.Good t b r
 -- the capacities: so many tracks, sectors and bytes in so much room; 6, 7, 8
 unfoldable pub within : {A : Type 0} → ℕ → ℕ → ℕ → ℕ → Result A → Result A
 within tracks sectors bytes room next =
-    need (leb tracks 204) TooManyTracks (need (leb sectors 2048) TooManySectors (need (leb bytes room) NoRoom next))
+    need (leb tracks mostTracks) TooManyTracks (need (leb sectors mostSectors) TooManySectors (need (leb bytes room) NoRoom next))
 
 -- a disk that a store with so much room can hold
 abbrev pub fitting : ℕ → Disk → Result Disk

@@ -1,4 +1,5 @@
--- Up to `Calls`, the definitions that a reader must believe, in the order in which they build on each other; `Store` is the layout. Behind it, what the private calls say.
+-- Up to `Calls`, the definitions that a reader must believe, in the order in which they build on each other; `Store` is the layout. Behind it, what
+-- the private calls say.
 pub mod Store
 pub mod Find
 pub mod Search

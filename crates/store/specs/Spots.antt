@@ -6,10 +6,12 @@ use mathlib.Core.Path.{_≡_}
 use lib.ListN.{length, drop}
 use lib.Dec.{eqb}
 use Rattle.fields.specs.Refusals.{Result, refused, good}
+use Rattle.fields.specs.Capacities.{mostData}
 use Rattle.fields.specs.Bytes.{byteAt}
 use Rattle.fields.specs.Model.{Sector, Disk}
 use Rattle.tracks.specs.Block.{rowAt, sectorOf}
 use Rattle.fields.specs.declared.id.SectorId.{SectorId}
+use Rattle.fields.specs.declared.refusal.Refusal.the-variants.{BadStore}
 use Rattle.store.specs.Find.{Found, nothing, found}
 use Rattle.store.specs.Search.{sectorAt}
 use Rattle.store.specs.Store.{tableLength, roomOf, countAt, nextAt, trackSum, countsAt, bytesAt, wellLaid, diskOf}
@@ -21,8 +23,8 @@ use Rattle.store.specs.declared.answer.Geometry.{Geometry}
 use Rattle.store.specs.declared.answer.Geometry.the-variants.{Of}
 use Rattle.store.specs.declared.find.Place.{Place}
 use Rattle.store.specs.declared.find.Place.the-variants as place
-use Rattle.store.specs.declared.check.Totals.{Totals}
-use Rattle.store.specs.declared.check.Totals.the-variants.{Bad, Good}
+use Rattle.store.specs.declared.check.Tallied.{Tallied}
+use Rattle.store.specs.declared.check.Tallied.the-variants.{Bad, Good}
 
 -- the place after the last row of so many tracks
 unfoldable pub endAt : List ℕ → ℕ → ℕ → ℕ
@@ -30,8 +32,8 @@ endAt t at zero = at
 endAt t at (suc left) = endAt t (nextAt t at) left
 
 -- the check of a store: how much it holds, and where its rows end
-unfoldable pub surveyOf : List ℕ → ℕ → Totals
-surveyOf t room =
+unfoldable pub tallyOf : List ℕ → ℕ → Tallied
+tallyOf t room =
     cond (wellLaid t room) (Good (countsAt t 1 (byteAt t 0)) (bytesAt t 1 (byteAt t 0)) (endAt t 1 (byteAt t 0))) Bad
 
 -- whether the track at a place is the one that is looked for
@@ -83,33 +85,44 @@ indexSpot t at i = turned t at i (countAt t at)
 pub record Walkable (t : List ℕ) : Type 0 where
   pub long : length t ≡ tableLength
   pub ends : endAt t 1 (byteAt t 0) ≤ tableLength
-  pub total : bytesAt t 1 (byteAt t 0) ≤ 1048576
+  pub total : bytesAt t 1 (byteAt t 0) ≤ mostData
 
--- what stands at a place of a store
-abbrev pub placed : List ℕ → List ℕ → Place → Result (Found Sector)
-placed t b (place.Refused why) = refused why
-placed t b place.Nothing = good nothing
-placed t b (place.Part index row from to) = good (found index (sectorOf (rowAt t row) (drop from b)))
+-- ---- Where a sector stands
+
+-- a row that was found: its index, its place, and where its bytes begin and end, before the end of all bytes
+abbrev pub placeAt : List ℕ → Spot → Place
+placeAt t Nothing = place.Nothing
+placeAt t (At i at from) = place.Part i at from (from + rowAt t at .stored) (bytesAt t 1 (byteAt t 0))
+
+-- `locate`: 2, nothing, or where the first match stands
+unfoldable pub placeOf : List ℕ → List ℕ → ℕ → ℕ → SectorId → Place
+placeOf t b side cylinder id = cond (wellLaid t (roomOf b)) (placeAt t (storeSpot t side cylinder id)) (place.Refused BadStore)
+
+-- the sector that stands at a place of a store
+abbrev pub standsAt : List ℕ → List ℕ → Place → Result (Found Sector)
+standsAt t b (place.Refused why) = refused why
+standsAt t b place.Nothing = good nothing
+standsAt t b (place.Part index row from to end) = good (found index (sectorOf (rowAt t row) (drop from b)))
 
 -- what a search of a store answers
 abbrev pub searched : Result Disk → ℕ → ℕ → SectorId → Result (Found Sector)
 searched (refused why) side cylinder id = refused why
 searched (good d) side cylinder id = good (sectorAt d side cylinder id)
 
--- that a place stands within the store
+-- a row and its bytes within a store
+pub record Placed (t b : List ℕ) (row from to end : ℕ) : Type 0 where
+  pub row-inside : row + 8 ≤ length t
+  pub bytes : to ≡ from + rowAt t row .stored
+  pub bytes-inside : to ≤ end
+  pub all : end ≡ bytesAt t 1 (byteAt t 0)
+  pub all-inside : end ≤ roomOf b
+
 abbrev pub Within : List ℕ → List ℕ → Place → Type 0
 Within t b (place.Refused why) = Unit {0}
 Within t b place.Nothing = Unit {0}
-Within t b (place.Part index row from to) = (row + 8 ≤ length t) × (to ≡ from + rowAt t row .stored) × (to ≤ length b)
+Within t b (place.Part index row from to end) = Placed t b row from to end
 
--- a place as the spot of its row
-abbrev pub spotOf : Place → Spot
-spotOf (place.Refused why) = Nothing
-spotOf place.Nothing = Nothing
-spotOf (place.Part index row from to) = At index row from
-
--- a place is where the search finds the sector, at the row that the table has for it
+-- a place is within the store, and what stands there is what the search finds
 pub record Located (t b : List ℕ) (side cylinder : ℕ) (id : SectorId) (r : Place) : Type 0 where
-  pub says : placed t b r ≡ searched (diskOf t b) side cylinder id
+  pub says : standsAt t b r ≡ searched (diskOf t b) side cylinder id
   pub within : Within t b r
-  pub stands : spotOf r ≡ cond (wellLaid t (roomOf b)) (storeSpot t side cylinder id) Nothing

@@ -3,15 +3,17 @@
 -- table[0] is the number of tracks. Then, track after track: cylinder, side, size n, gap, filler, number of sectors, and at once so many
 -- rows of eight bytes: c, h, r, n, st1, st2, stored length (low byte first). The sectors' bytes lie in the data buffer from 0 on, one after
 -- another in the order of their rows.
-use Prim.Native.Nat.{ℕ, zero, suc, _+_, _*_, _/_, _%_, min}
+use Prim.Native.Nat.{ℕ, zero, suc, _+_, _*_, min}
 use mathlib.Core.List.{List, [], _∷_, _++_}
 use mathlib.Core.Bool.{Bool, _&&_}
 use lib.ListN.{length, drop}
 use lib.Dec.{eqb, leb}
 use Rattle.fields.specs.Refusals.{Result, good, need}
+use Rattle.fields.specs.Capacities.{mostTracks, mostSectors, mostData, mostTransfer}
 use Rattle.fields.specs.Bytes.{byteAt}
 use Rattle.fields.specs.Model.{Sector, Track, Disk}
-use Rattle.tracks.specs.Block.{rowAt, sectorOf}
+use Rattle.tracks.specs.Block.{rowAt, sectorOf, trackHead}
+use Rattle.tracks.specs.Rows.{headFor, rowsFor}
 use Rattle.fields.specs.declared.refusal.Refusal.the-variants.{BadStore}
 
 -- ---- Capacities
@@ -22,29 +24,18 @@ tableLength = 17609
 
 -- a data buffer's room: its length, or 1,048,576 if that is less
 unfoldable pub roomOf : List ℕ → ℕ
-roomOf b = min (length b) 1048576
+roomOf b = min (length b) mostData
 
 -- a transfer buffer's room: its length, or 65,536 if that is less
 unfoldable pub transferRoom : List ℕ → ℕ
-transferRoom x = min (length x) 65536
+transferRoom x = min (length x) mostTransfer
 
 -- ---- Laying a disk
 
--- a sector's row, before what follows it
-abbrev pub rowFor : Sector → List ℕ → List ℕ
-rowFor s rest =
-    s .id .c ∷ s .id .h ∷ s .id .r ∷ s .id .n ∷ s .st1 .bits ∷ s .st2 .bits ∷ length (s .content) % 256 ∷ length (s .content) / 256 ∷ rest
-
--- the rows of sectors, before what follows them
-unfoldable pub rowsFor : List Sector → List ℕ → List ℕ
-rowsFor [] rest = rest
-rowsFor (s ∷ ss) rest = rowFor s (rowsFor ss rest)
-
--- the rows of tracks, before what follows them
+-- the heads and rows of tracks, before what follows them
 unfoldable pub tracksFor : List Track → List ℕ → List ℕ
 tracksFor [] rest = rest
-tracksFor (t ∷ ts) rest =
-    t .cylinder ∷ t .side ∷ t .size ∷ t .gap ∷ t .filler ∷ length (t .sectors) ∷ rowsFor (t .sectors) (tracksFor ts rest)
+tracksFor (t ∷ ts) rest = headFor (trackHead t) (rowsFor (t .sectors) (tracksFor ts rest))
 
 -- the used part of the table
 unfoldable pub tableOf : Disk → List ℕ
@@ -110,7 +101,7 @@ bytesAt t at (suc left) = trackSum t at + bytesAt t (nextAt t at) left
 unfoldable pub wellLaid : List ℕ → ℕ → Bool
 wellLaid t room =
     eqb (length t) tableLength
-    && (leb (byteAt t 0) 204 && (leb (countsAt t 1 (byteAt t 0)) 2048 && leb (bytesAt t 1 (byteAt t 0)) room))
+    && (leb (byteAt t 0) mostTracks && (leb (countsAt t 1 (byteAt t 0)) mostSectors && leb (bytesAt t 1 (byteAt t 0)) room))
 
 -- the disk that a store holds; 2 where it breaks the layout
 unfoldable pub diskOf : List ℕ → List ℕ → Result Disk

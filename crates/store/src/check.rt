@@ -1,21 +1,19 @@
-// The capacities, and the check of a store.
+// The rooms of the lent buffers, and the check of a store.
+use fields::DATA;
+use fields::SECTORS;
+use fields::TRACKS;
+use fields::TRANSFER;
 ghost use mathlib.Core.Path.{_≡_};
 ghost use Prim.Native.Nat.{_+_, _*_, _<_, _≤_};
 ghost use lib.ListN.{length};
-ghost use Rattle.store.specs.Store.{roomOf, transferRoom, sumAt};
-ghost use Rattle.store.specs.Spots.{surveyOf};
+ghost use Rattle.fields.specs.Capacities.{mostData};
+ghost use Rattle.store.specs.Store.{tableLength, roomOf, transferRoom, sumAt};
+ghost use Rattle.store.specs.Spots.{tallyOf};
 
+// The one length of a table: a count, 204 heads and 2,048 rows.
 pub const TABLE: usize = 17609;
 
-pub const TRACKS: usize = 204;
-
-pub const SECTORS: usize = 2048;
-
-pub const ROOM: usize = 1048576;
-
-pub const TRANSFER: usize = 65536;
-
-pub enum Totals {
+pub enum Tallied {
     Bad,
     Good {
         sectors: usize,
@@ -26,12 +24,12 @@ pub enum Totals {
 
 // How many bytes a data buffer may hold.
 pub fn room_of(bytes: &[u8]) -> usize
-    ensures { λ r. ⌜ (r ≡ roomOf (now (bytes .entry))) × (r ≤ 1048576) ⌝ }
+    ensures { λ r. ⌜ (r ≡ roomOf (now (bytes .entry))) × (r ≤ mostData) ⌝ }
 {
-    if bytes.len() < ROOM {
+    if bytes.len() < DATA {
         bytes.len()
     } else {
-        ROOM
+        DATA
     }
 }
 
@@ -48,7 +46,7 @@ pub fn transfer_room(transfer: &[u8]) -> usize
 
 // The sum of the stored lengths of `count` rows.
 pub fn rows_len(table: &[u8], start: usize, count: usize) -> usize
-    requires { ⌜ (start + 8 * count ≤ 17609) × (count < 256) ⌝ }
+    requires { ⌜ (start + 8 * count ≤ tableLength) × (count < 256) ⌝ }
     ensures { λ r. ⌜ (r ≡ sumAt (now (table .entry)) start count) × (r ≤ 65535 * count) ⌝ }
 {
     let mut sum: usize = 0;
@@ -64,15 +62,15 @@ pub fn rows_len(table: &[u8], start: usize, count: usize) -> usize
 }
 
 // Checks a store in one pass: how much it holds and where its rows end.
-pub fn survey(table: &[u8], room: usize) -> Totals
-    ensures { λ r. ⌜ r ≡ surveyOf (now (table .entry)) room ⌝ }
+pub fn tally(table: &[u8], room: usize) -> Tallied
+    ensures { λ r. ⌜ r ≡ tallyOf (now (table .entry)) room ⌝ }
 {
     if table.len() != TABLE {
-        return Totals::Bad;
+        return Tallied::Bad;
     }
     let tracks = fields::byte(table, 0);
     if TRACKS < tracks {
-        return Totals::Bad;
+        return Tallied::Bad;
     }
     let mut left = tracks;
     let mut at: usize = 1;
@@ -81,7 +79,7 @@ pub fn survey(table: &[u8], room: usize) -> Totals
     while 0 < left {
         let count = fields::byte(table, at + 5);
         if SECTORS < sectors + count {
-            return Totals::Bad;
+            return Tallied::Bad;
         }
         bytes += rows_len(table, at + 6, count);
         sectors += count;
@@ -89,9 +87,9 @@ pub fn survey(table: &[u8], room: usize) -> Totals
         left -= 1;
     }
     if room < bytes {
-        return Totals::Bad;
+        return Tallied::Bad;
     }
-    Totals::Good {
+    Tallied::Good {
         sectors,
         bytes,
         end: at,

@@ -1,18 +1,19 @@
 // The searches: a track by cylinder and side, a sector by all four bytes of its ID, each the first that matches.
 use crate::answer::Geometry;
 use crate::answer::IdFound;
-use crate::check::Totals;
+use crate::check::Tallied;
 use crate::check::room_of;
 use crate::check::rows_len;
-use crate::check::survey;
+use crate::check::tally;
 use fields::Refusal;
 use fields::SectorId;
 ghost use mathlib.Core.Path.{_≡_};
 ghost use Prim.Native.Nat.{_+_, _*_, _<_, _≤_, max};
+ghost use Rattle.fields.specs.Capacities.{mostData};
 ghost use Rattle.fields.specs.Bytes.{byteAt};
-ghost use Rattle.store.specs.Store.{sumAt, diskOf};
-ghost use Rattle.store.specs.Calls.{geometryOf, idOf};
-ghost use Rattle.store.specs.Spots.{cylindersAt, indexSpot, trackHere, rowHere, trackSpot, sectorSpot, storeSpot, Walkable, Located};
+ghost use Rattle.store.specs.Store.{tableLength, sumAt, diskOf};
+ghost use Rattle.store.specs.Calls.{geometryOf, idByIndex};
+ghost use Rattle.store.specs.Spots.{cylindersAt, indexSpot, trackHere, rowHere, trackSpot, sectorSpot, storeSpot, placeOf, Walkable};
 
 // Where a search ends: the index of what it found, its place in the table and that of its bytes.
 pub enum Spot {
@@ -30,7 +31,7 @@ pub enum Turned {
     Row { index: usize, at: usize },
 }
 
-// Where the sector at an address stands: its index in its track, its row and its bytes.
+// Where the sector at an address stands: its index in its track, its row, its bytes, and the end of the bytes of all sectors.
 pub enum Place {
     Refused(Refusal),
     Nothing,
@@ -39,6 +40,7 @@ pub enum Place {
         row: usize,
         from: usize,
         to: usize,
+        end: usize,
     },
 }
 
@@ -94,7 +96,7 @@ pub fn get_track(table: &[u8], side: u8, cylinder: u8) -> Spot
 
 // The first of `count` rows with this ID; the bytes of the first row stand at `first`.
 pub fn get_sector(table: &[u8], start: usize, first: usize, count: usize, id: SectorId) -> Spot
-    requires { ⌜ (start + 8 * count ≤ 17609) × ((count < 256) × (first + sumAt (now table) start count ≤ 1048576)) ⌝ }
+    requires { ⌜ (start + 8 * count ≤ tableLength) × ((count < 256) × (first + sumAt (now table) start count ≤ mostData)) ⌝ }
     ensures { λ r. ⌜ r ≡ sectorSpot (now (table .entry)) id 0 start first count ⌝ }
 {
     let mut left = count;
@@ -162,9 +164,9 @@ pub fn greater(a: usize, b: usize) -> usize
 pub fn geometry(table: &[u8], bytes: &[u8]) -> Geometry
     ensures { λ r. ⌜ r ≡ geometryOf (diskOf (now (table .entry)) (now (bytes .entry))) ⌝ }
 {
-    match survey(table, room_of(bytes)) {
-        Totals::Bad => Geometry::Refused(Refusal::BadStore),
-        Totals::Good {
+    match tally(table, room_of(bytes)) {
+        Tallied::Bad => Geometry::Refused(Refusal::BadStore),
+        Tallied::Good {
             sectors: _,
             bytes: _,
             end: _,
@@ -190,26 +192,31 @@ pub fn find_sector(table: &[u8], side: u8, cylinder: u8, id: SectorId) -> Spot
     }
 }
 
-// Where the sector at an address stands: the one function that looks at a store as it comes.
+// Where the sector at an address stands, in a store as it comes.
 pub fn locate(table: &[u8], bytes: &[u8], side: u8, cylinder: u8, id: SectorId) -> Place
-    ensures { λ r. ⌜ Located (now (table .entry)) (now (bytes .entry)) side cylinder id r ⌝ }
+    ensures { λ r. ⌜ r ≡ placeOf (now (table .entry)) (now (bytes .entry)) side cylinder id ⌝ }
 {
-    match survey(table, room_of(bytes)) {
-        Totals::Bad => Place::Refused(Refusal::BadStore),
-        Totals::Good {
+    match tally(table, room_of(bytes)) {
+        Tallied::Bad => Place::Refused(Refusal::BadStore),
+        Tallied::Good {
             sectors: _,
-            bytes: _,
+            bytes: end,
             end: _,
         } => match find_sector(table, side, cylinder, id) {
             Spot::Nothing => Place::Nothing,
-            Spot::At { index, at, place } => {
-                let row = tracks::row_at(table, at);
-                let to = place + (row.stored as usize);
+            Spot::At {
+                index,
+                at: row,
+                place: from,
+            } => {
+                let entry = tracks::row_at(table, row);
+                let to = from + (entry.stored as usize);
                 Place::Part {
                     index,
-                    row: at,
-                    from: place,
+                    row,
+                    from,
                     to,
+                    end,
                 }
             }
         },
@@ -218,11 +225,11 @@ pub fn locate(table: &[u8], bytes: &[u8], side: u8, cylinder: u8, id: SectorId) 
 
 // The ID of the sector with this index, counted round the track with this side and cylinder.
 pub fn id_by_idx(table: &[u8], bytes: &[u8], side: u8, cylinder: u8, idx: u16) -> IdFound
-    ensures { λ r. ⌜ r ≡ idOf (diskOf (now (table .entry)) (now (bytes .entry))) side cylinder idx ⌝ }
+    ensures { λ r. ⌜ r ≡ idByIndex (diskOf (now (table .entry)) (now (bytes .entry))) side cylinder idx ⌝ }
 {
-    match survey(table, room_of(bytes)) {
-        Totals::Bad => IdFound::Refused(Refusal::BadStore),
-        Totals::Good {
+    match tally(table, room_of(bytes)) {
+        Tallied::Bad => IdFound::Refused(Refusal::BadStore),
+        Tallied::Good {
             sectors: _,
             bytes: _,
             end: _,

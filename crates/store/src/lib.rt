@@ -16,12 +16,11 @@ ghost use Rattle.store.specs.Store.{diskOf};
 ghost use Rattle.store.specs.Calls.{lookupOf, hasOf};
 
 // The names of this block are for the crates above only, and may have a `requires`.
-pub use check::ROOM;
 pub use check::TABLE;
-pub use check::Totals;
+pub use check::Tallied;
 pub use check::room_of;
 pub use check::rows_len;
-pub use check::survey;
+pub use check::tally;
 pub use check::transfer_room;
 pub use find::Place;
 pub use find::Spot;
@@ -50,6 +49,7 @@ pub fn lookup<'t, 'b>(
             row: _,
             from,
             to,
+            end: _,
         } => &bytes[from..to],
     }
 }
@@ -66,6 +66,7 @@ pub fn has_sector(table: &[u8], bytes: &[u8], side: u8, cylinder: u8, id: Sector
             row: _,
             from: _,
             to: _,
+            end: _,
         } => Has::Yes,
     }
 }

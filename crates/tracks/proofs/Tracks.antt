@@ -8,9 +8,9 @@ use lib.ListN.{length, take, drop, length-take, length-drop}
 use lib.Dec.{leb}
 use borrow.Author.Tests.{lt-leb, le-leb, leb-true}
 use Rattle.fields.specs.Refusals.{Result, good, need, after}
-use Rattle.fields.specs.Bytes.{byteAt, textAt, stringOf}
+use Rattle.fields.specs.Bytes.{byteAt, textAt, readString}
 use Rattle.fields.specs.Model.{Sector, Track, total, trackBytes}
-use Rattle.tracks.specs.Block.{rowPlace, rowOf, sectorOf, sectorsFrom, storedFrom, dataEnd, trackIn, trackText, bodyOf, trackOf, headOf, blockOf}
+use Rattle.tracks.specs.Block.{rowPlace, rowOf, sectorOf, sectorsFrom, storedFrom, dataEnd, trackIn, trackText, bodyOf, trackOf, trackHead, blockOf}
 use Rattle.fields.specs.declared.refusal.Refusal.{Refusal}
 use Rattle.fields.specs.declared.refusal.Refusal.the-variants.{ShortImage, NotATrack}
 use Rattle.fields.specs.declared.read.Text.the-variants as text
@@ -19,6 +19,7 @@ use Rattle.tracks.specs.declared.track.Head.{Head}
 use Rattle.tracks.specs.declared.track.Block.{Block}
 use Rattle.tracks.specs.declared.track.Block.the-variants as block
 use Rattle.fields.proofs.Readers.{told}
+use Rattle.fields.proofs.Tests.{never}
 
 -- a step of a definition that counts down, said of k above 0 and k - 1
 pub down : (P : ℕ → ℕ → Type 0) → ((k : ℕ) → P (suc k) k) → (k : ℕ) → 0 < k → P k (k - 1)
@@ -119,7 +120,7 @@ module _ (kind : Kind) (b : List ℕ) where
     -- the head that is handed out is that of the track
     head-is : end ≤ length b → (record
         { cylinder = byteAt b 0x10; side = byteAt b 0x11; size = byteAt b 0x14; sectors = byteAt b 0x15; gap = byteAt b 0x16; filler = byteAt b 0x17; stored = st })
-        ≡ headOf (trackIn kind b)
+        ≡ trackHead (trackIn kind b)
     unfolding trackIn
     head-is h =
         let d : dataEnd (storedFrom kind b 0 (byteAt b 0x15)) ≤ length b = rw ends h in
@@ -134,15 +135,15 @@ module _ (kind : Kind) (b : List ℕ) where
     unfolding bodyOf
     body-good h = simp (le-leb _ _ inside, ends, le-leb _ _ h) (ap block.Head (head-is h))
 
-  pub track-short : (why : Refusal) → stringOf trackText b 0 ≡ text.Refused why → block.Refused why ≡ blockOf (trackOf kind b)
+  pub track-short : (why : Refusal) → readString trackText b 0 ≡ text.Refused why → block.Refused why ≡ blockOf (trackOf kind b)
   unfolding trackOf
   track-short why e = let f = told trackText b 0 (text.Refused why) e in simp (f .0, f .1)
 
-  pub track-other : stringOf trackText b 0 ≡ text.Other → block.Refused NotATrack ≡ blockOf (trackOf kind b)
+  pub track-other : readString trackText b 0 ≡ text.Other → block.Refused NotATrack ≡ blockOf (trackOf kind b)
   unfolding trackOf
   track-other e = let f = told trackText b 0 text.Other e in simp (f .0, f .1)
 
-  pub track-body : (r : Block) → stringOf trackText b 0 ≡ text.Same → r ≡ blockOf (bodyOf kind b) → r ≡ blockOf (trackOf kind b)
+  pub track-body : (r : Block) → readString trackText b 0 ≡ text.Same → r ≡ blockOf (bodyOf kind b) → r ≡ blockOf (trackOf kind b)
   unfolding trackOf
   track-body r e q = let f = told trackText b 0 text.Same e in simp (f .0, f .1) q
 
@@ -153,7 +154,7 @@ module _ (kind : Kind) (b : List ℕ) where
     where
       there : (next : Result Track) (l : Bool) → leb 12 (length b) ≡ l → block.Head h ≡ blockOf (need l ShortImage next) → 12 ≤ length b
       there next true q e = leb-true 12 (length b) q
-      there next false q e = let z : _≡_ {A = ℕ} 0 1 = cc in absurd (omega arith)
+      there next false q e = never (cc)
 
 -- ---- a track that was read as good
 

@@ -93,8 +93,8 @@ trackOf kind b =
 -- ---- What the calls answer
 
 -- a track's fields, how many sectors it has and how many bytes they store
-abbrev pub headOf : Track → Head
-headOf t = record {
+abbrev pub trackHead : Track → Head
+trackHead t = record {
   cylinder = t .cylinder;
   side = t .side;
   size = t .size;
@@ -107,4 +107,4 @@ headOf t = record {
 -- reading a track block
 abbrev pub blockOf : Result Track → Block
 blockOf (refused why) = block.Refused why
-blockOf (good t) = block.Head (headOf t)
+blockOf (good t) = block.Head (trackHead t)

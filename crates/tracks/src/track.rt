@@ -42,7 +42,7 @@ pub enum Block {
 }
 
 // The ID at a place of a sector list.
-fn id_at(list: &[u8], at: usize) -> SectorId
+pub fn id_at(list: &[u8], at: usize) -> SectorId
     requires { ⌜ at < 65536 ⌝ }
     ensures { λ r. ⌜ r ≡ idAt (now (list .entry)) at ⌝ }
 {

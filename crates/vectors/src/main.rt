@@ -112,7 +112,7 @@ fn show_store(table: &[u8], bytes: &[u8]) {
 fn show(image: &[u8], table: &mut [u8], bytes: &mut [u8]) {
     match image::survey(image) {
         image::Surveyed::Refused(why) => replay::refused(why),
-        image::Surveyed::Good(totals) => {
+        image::Surveyed::Good(totals, _) => {
             replay::show_totals(totals.tracks, totals.sectors, totals.bytes);
             match loading::new(image, table, bytes) {
                 store::Done::Refused(why) => replay::refused(why),

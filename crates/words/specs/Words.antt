@@ -9,6 +9,8 @@ use Rattle.store.specs.declared.answer.Geometry.{Geometry}
 use Rattle.store.specs.declared.answer.Geometry.the-variants as geometry
 use Rattle.store.specs.declared.answer.Done.{Done}
 use Rattle.store.specs.declared.answer.Done.the-variants as done
+use Rattle.registers.specs.declared.regs.Receipt.{Receipt}
+use Rattle.registers.specs.declared.regs.Receipt.the-variants as receipt
 use Rattle.registers.specs.declared.regs.Byte.{Byte}
 use Rattle.registers.specs.declared.regs.Byte.the-variants as byte
 use Rattle.registers.specs.declared.regs.Flag.{Flag}
@@ -33,6 +35,10 @@ flagWord (flag.Refused why) = refusalWord why
 abbrev pub doneWord : Done → ℕ
 doneWord done.Good = 0
 doneWord (done.Refused why) = refusalWord why
+
+abbrev pub receiptWord : Receipt → ℕ
+receiptWord receipt.Good = 0
+receiptWord (receipt.Refused why) = refusalWord why
 
 abbrev pub hasWord : Has → ℕ
 hasWord has.Yes = 1

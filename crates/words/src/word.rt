@@ -2,11 +2,12 @@
 use fields::Refusal;
 use registers::Byte;
 use registers::Flag;
+use registers::Receipt;
 use store::Done;
 use store::Geometry;
 use store::Has;
 ghost use mathlib.Core.Path.{_≡_};
-ghost use Rattle.words.specs.Words.{refusalWord, boolWord, byteWord, flagWord, doneWord, hasWord, geometryWord};
+ghost use Rattle.words.specs.Words.{refusalWord, boolWord, byteWord, flagWord, doneWord, receiptWord, hasWord, geometryWord};
 
 pub fn wide(b: u8) -> u64
     ensures { λ r. ⌜ r ≡ b ⌝ }
@@ -50,6 +51,15 @@ pub fn done_word(a: Done) -> u64
     match a {
         Done::Good => 0,
         Done::Refused(why) => refusal_word(why),
+    }
+}
+
+pub fn receipt_word(a: Receipt) -> u64
+    ensures { λ r. ⌜ r ≡ receiptWord a ⌝ }
+{
+    match a {
+        Receipt::Good => 0,
+        Receipt::Refused(why) => refusal_word(why),
     }
 }
 

@@ -22,8 +22,8 @@ broken-requires c κs = search needs
 returns : tie.Need-returns Inv-loop μ-loop
 returns c = search needs
 
-word-at-requires : tie.Need-word-at-requires Inv-loop μ-loop
-word-at-requires c κs = search needs
+word-requires : tie.Need-word-requires Inv-loop μ-loop
+word-requires c κs = search needs
 
 loop-holds : tie.Need-loop-holds Inv-loop μ-loop
 loop-holds c = search needs
@@ -74,7 +74,7 @@ operations-spec =
     take-requires
     broken-requires
     returns
-    word-at-requires
+    word-requires
     loop-holds
     operate-requires
     same-length

@@ -1,5 +1,5 @@
 use Rattle.host.proofs.Answers.{here-long, asked-bad, asked-good}
-use Rattle.registers.specs.Calls.{trackOf}
+use Rattle.registers.specs.Calls.{currentTrack}
 use Rattle.host.specs.Calls.{trackOn}
 use Rattle.words.specs.Words.{byteWord}
 use mathlib.Core.Path.{ap, _∙_}
@@ -15,7 +15,7 @@ refusal-word-requires c κs = search needs
 
 returns : tie.Need-returns
 unfolding trackOn
-returns c = asked-bad _ _ (c .before .before .formed .ensures) (c .before .if1 .taken) _ (λ r. byteWord (trackOf r)) (c .refusal-word .ensures)
+returns c = asked-bad _ _ (c .before .before .formed .ensures) (c .before .if1 .taken) _ (λ r. byteWord (currentTrack r)) (c .refusal-word .ensures)
 
 decode-requires : tie.Need-decode-requires
 decode-requires c κs = here-long _ _ (c .before .formed .ensures) (c .if1 .left)
@@ -32,7 +32,7 @@ returns-2 c =
     let formed = c .before .before .before .before .formed in
     let if1 = c .before .before .before .if1 in
     let decode = c .before .before .decode in
-    asked-good _ _ (formed .ensures) (if1 .left) _ (decode .ensures) _ (λ r. byteWord (trackOf r))
+    asked-good _ _ (formed .ensures) (if1 .left) _ (decode .ensures) _ (λ r. byteWord (currentTrack r))
     (c .byte-word .ensures ∙ ap byteWord (c .before .current-track .ensures))
 
 pub floppy-current-track-spec : {M : Type 1} → statement M

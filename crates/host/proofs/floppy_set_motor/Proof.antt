@@ -2,8 +2,8 @@ use lib.Dec.{eqb}
 use mathlib.Core.Bool.{not}
 use Rattle.host.proofs.Answers.{here-long, answered-bad, answered-good}
 use Rattle.registers.specs.Calls.{motorSet}
-use Rattle.registers.specs.declared.regs.Written.{Written}
-use Rattle.host.specs.Calls.{writtenOn, setMotorOn}
+use Rattle.registers.specs.declared.regs.Switched.{Switched}
+use Rattle.host.specs.Calls.{switchedOn, setMotorOn}
 use mathlib.Core.Path.{ap, _∙_}
 use borrow.Author.Needs.{needs}
 use Rattle.host.proofs.floppy_set_motor.Statement.{statement}
@@ -23,7 +23,7 @@ unfolding setMotorOn
 returns c =
     let args = c .before .before .before .before .before .args in
     let formed = c .before .before .formed in
-    answered-bad _ _ (formed .ensures) (c .before .if1 .taken) _ (λ r. writtenOn (args .controller .now) (motorSet (not (eqb (args .on) 0)) r))
+    answered-bad _ _ (formed .ensures) (c .before .if1 .taken) _ (λ r. switchedOn (args .controller .now) (motorSet (not (eqb (args .on) 0)) r))
     (c .refusal-word .ensures)
 
 decode-requires : tie.Need-decode-requires
@@ -32,8 +32,8 @@ decode-requires c κs = here-long _ _ (c .before .before .formed .ensures) (c .b
 set-motor-requires : tie.Need-set-motor-requires
 set-motor-requires c κs = search needs
 
-settle-requires : tie.Need-settle-requires
-settle-requires c κs = here-long _ _ (c .before .before .before .before .before .formed .ensures) (c .before .before .before .before .if1 .left)
+switch-requires : tie.Need-switch-requires
+switch-requires c κs = here-long _ _ (c .before .before .before .before .before .formed .ensures) (c .before .before .before .before .if1 .left)
 
 same-length-2 : tie.Need-same-length-2
 same-length-2 c = search needs
@@ -46,9 +46,9 @@ returns-2 c =
     let if1 = c .before .before .before .before .before .before .before .if1 in
     let decode = c .before .before .before .before .before .decode in
     let set-motor = c .before .before .before .before .set-motor in
-    let settle = c .before .before .settle in
-    answered-good _ _ (formed .ensures) (if1 .left) _ (decode .ensures) _ (λ r. writtenOn (args .controller .now) (motorSet (not (eqb (args .on) 0)) r))
-    (settle .ensures ∙ ap (λ (a : Written). writtenOn (args .controller .now) a) (set-motor .ensures))
+    let switch = c .before .before .switch in
+    answered-good _ _ (formed .ensures) (if1 .left) _ (decode .ensures) _ (λ r. switchedOn (args .controller .now) (motorSet (not (eqb (args .on) 0)) r))
+    (switch .ensures ∙ ap (λ (a : Switched). switchedOn (args .controller .now) a) (set-motor .ensures))
 
 pub floppy-set-motor-spec : {M : Type 1} → statement M
 floppy-set-motor-spec =
@@ -60,6 +60,6 @@ floppy-set-motor-spec =
     returns
     decode-requires
     set-motor-requires
-    settle-requires
+    switch-requires
     same-length-2
     returns-2)

@@ -1,7 +1,7 @@
-use Prim.Native.Nat.{ℕ}
-use Rattle.host.specs.Calls.{answered, writtenAs}
-use Rattle.store.specs.declared.answer.Done.{Done}
 use mathlib.Core.Path.{sym, ap, _∙_}
+use Rattle.registers.specs.declared.regs.Receipt.{Receipt}
+use Rattle.words.specs.Words.{receiptWord}
+use Rattle.host.specs.Calls.{answered, relaid, ifTaken}
 use borrow.Author.Needs.{needs}
 use Rattle.host.proofs.settle.Statement.{statement}
 use Rattle.host.proofs.settle.Tie as tie
@@ -12,28 +12,36 @@ enum-told c = search needs
 encode-requires : tie.Need-encode-requires
 encode-requires c κs = search needs
 
-enum-known-done : tie.Need-enum-known-done
-enum-known-done c = search needs
+receipt-word-requires : tie.Need-receipt-word-requires
+receipt-word-requires c κs = search needs
 
-refusal-word-requires : tie.Need-refusal-word-requires
-refusal-word-requires c κs = search needs
+enum-told-2 : tie.Need-enum-told-2
+enum-told-2 c = search needs
+
+receipt-word-requires-2 : tie.Need-receipt-word-requires-2
+receipt-word-requires-2 c κs = search needs
 
 same-length : tie.Need-same-length
 same-length c = search needs
 
 returns : tie.Need-returns
 returns c =
-    let args = c .before .before .before .before .before .before .before .before .args in
-    let enum-told = c .before .before .before .before .enum-told in
-    let encode = c .before .before .encode in
-    ap (answered 0) (encode .ensures) ∙ ap (λ (z : Done). writtenAs (args .controller .now) z (args .a .regs)) (sym (enum-told .given .1))
+    let n = c .before .before .before in
+    let e = n .before .before in
+    let a = e .before .before .before .args in
+    let l = a .controller .now in
+    let r = relaid l (a .a .regs) in
+    (λ i. answered (c .receipt-word .ensures i) (n .encode .ensures i))
+    ∙ ap (λ (z : Receipt). answered (receiptWord (a .a .receipt)) (ifTaken z r l)) (sym (e .enum-told .given .1))
 
 returns-2 : tie.Need-returns-2
 returns-2 c =
-    let args = c .before .before .before .before .before .before .args in
-    let done = c .before .before .done in
-    ap (λ (w : ℕ). answered w (args .controller .now)) (c .refusal-word .ensures)
-    ∙ ap (λ (z : Done). writtenAs (args .controller .now) z (args .a .regs)) (sym (done .given .1))
+    let e = c .before in
+    let a = e .before .before .before .args in
+    let l = a .controller .now in
+    let r = relaid l (a .a .regs) in
+    ap (λ w. answered w l) (c .receipt-word2 .ensures)
+    ∙ ap (λ (z : Receipt). answered (receiptWord (a .a .receipt)) (ifTaken z r l)) (sym (e .enum-told2 .given .1))
 
 pub settle-spec : {M : Type 1} → statement M
 settle-spec =
@@ -41,8 +49,9 @@ settle-spec =
     (tie.spec
     enum-told
     encode-requires
-    enum-known-done
-    refusal-word-requires
+    receipt-word-requires
+    enum-told-2
+    receipt-word-requires-2
     same-length
     returns
     returns-2)

@@ -4,10 +4,10 @@ use Rattle.ports.proofs.play.Statement.{statement}
 use Rattle.ports.proofs.play.Tie as tie
 
 abbrev Inv-loop : tie.InvT-loop
-Inv-loop lent calls table-a₀ bytes-a₀ table-b₀ bytes-b₀ transfer₀ out₀ bench₀ stop at₀ table-a bytes-a table-b bytes-b transfer out bench at = Unit
+Inv-loop lent calls tables₀ contents₀ transfer₀ bench₀ stop at₀ tables contents transfer bench at = Unit
 
 abbrev μ-loop : tie.MeasureT-loop
-μ-loop lent calls table-a₀ bytes-a₀ table-b₀ bytes-b₀ transfer₀ out₀ bench₀ stop at₀ table-a bytes-a table-b bytes-b transfer out bench at = stop - at
+μ-loop lent calls tables₀ contents₀ transfer₀ bench₀ stop at₀ tables contents transfer bench at = stop - at
 
 new-bench-requires : tie.Need-new-bench-requires Inv-loop μ-loop
 new-bench-requires c κs = search needs
@@ -21,23 +21,17 @@ loop-holds c = search needs
 byte-requires : tie.Need-byte-requires Inv-loop μ-loop
 byte-requires c κs = search needs
 
-add-word-at : tie.Need-add-word-at Inv-loop μ-loop
-add-word-at c = search needs
+add-word : tie.Need-add-word Inv-loop μ-loop
+add-word c = search needs
 
-word-at-requires : tie.Need-word-at-requires Inv-loop μ-loop
-word-at-requires c κs = search needs
+word-requires : tie.Need-word-requires Inv-loop μ-loop
+word-requires c κs = search needs
 
-add-word-at-2 : tie.Need-add-word-at-2 Inv-loop μ-loop
-add-word-at-2 c = search needs
+add-word-2 : tie.Need-add-word-2 Inv-loop μ-loop
+add-word-2 c = search needs
 
-word-at-requires-2 : tie.Need-word-at-requires-2 Inv-loop μ-loop
-word-at-requires-2 c κs = search needs
-
-add-next : tie.Need-add-next Inv-loop μ-loop
-add-next c = search needs
-
-add-next-2 : tie.Need-add-next-2 Inv-loop μ-loop
-add-next-2 c = search needs
+word-requires-2 : tie.Need-word-requires-2 Inv-loop μ-loop
+word-requires-2 c κs = search needs
 
 add-part : tie.Need-add-part Inv-loop μ-loop
 add-part c = search needs
@@ -45,8 +39,14 @@ add-part c = search needs
 part-requires : tie.Need-part-requires Inv-loop μ-loop
 part-requires c κs = search needs
 
-step-requires : tie.Need-step-requires Inv-loop μ-loop
-step-requires c κs = search needs
+make-requires : tie.Need-make-requires Inv-loop μ-loop
+make-requires c κs = search needs
+
+add-at : tie.Need-add-at Inv-loop μ-loop
+add-at c = search needs
+
+add-at-2 : tie.Need-add-at-2 Inv-loop μ-loop
+add-at-2 c = search needs
 
 loop-less : tie.Need-loop-less Inv-loop μ-loop
 loop-less c = search needs
@@ -67,15 +67,15 @@ play-spec =
     least-requires
     loop-holds
     byte-requires
-    add-word-at
-    word-at-requires
-    add-word-at-2
-    word-at-requires-2
-    add-next
-    add-next-2
+    add-word
+    word-requires
+    add-word-2
+    word-requires-2
     add-part
     part-requires
-    step-requires
+    make-requires
+    add-at
+    add-at-2
     loop-less
     loop-again
     returns)

@@ -3,10 +3,10 @@ use Rattle.ports.proofs.run.Statement.{statement}
 use Rattle.ports.proofs.run.Tie as tie
 
 abbrev Inv-loop : tie.InvT-loop
-Inv-loop name₀ image-a₀ image-b₀ calls₀ table-a₀ bytes-a₀ table-b₀ bytes-b₀ transfer₀ out₀ left₀ name image-a image-b calls table-a bytes-a table-b bytes-b transfer out left = Unit
+Inv-loop list₀ tables₀ contents₀ transfer₀ left₀ list tables contents transfer left = Unit
 
 abbrev μ-loop : tie.MeasureT-loop
-μ-loop name₀ image-a₀ image-b₀ calls₀ table-a₀ bytes-a₀ table-b₀ bytes-b₀ transfer₀ out₀ left₀ name image-a image-b calls table-a bytes-a table-b bytes-b transfer out left = left
+μ-loop list₀ tables₀ contents₀ transfer₀ left₀ list tables contents transfer left = left
 
 loop-holds : tie.Need-loop-holds Inv-loop μ-loop
 loop-holds c = search needs

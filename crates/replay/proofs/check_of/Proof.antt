@@ -1,6 +1,5 @@
 use mathlib.Core.Path.{_≡_}
-use Prim.Native.Nat.{_-_, _<_}
-use native.Mathlib.Omega.{arith}
+use Prim.Native.Nat.{_-_}
 use lib.ListN.{length, drop}
 use borrow.Author.Needs.{needs}
 use Rattle.replay.specs.Answers.{checkFrom}
@@ -9,7 +8,7 @@ use Rattle.replay.proofs.check_of.Statement.{statement}
 use Rattle.replay.proofs.check_of.Tie as tie
 
 abbrev Inv-loop : tie.InvT-loop
-Inv-loop bytes h₀ i₀ h i = (h < 4294967291) × (checkFrom h (drop i bytes) ≡ checkFrom 0 bytes)
+Inv-loop bytes h₀ i₀ h i = checkFrom h (drop i bytes) ≡ checkFrom 0 bytes
 
 abbrev μ-loop : tie.MeasureT-loop
 μ-loop bytes h₀ i₀ h i = length bytes - i
@@ -17,14 +16,11 @@ abbrev μ-loop : tie.MeasureT-loop
 loop-holds : tie.Need-loop-holds Inv-loop μ-loop
 loop-holds c = search needs
 
-byte-requires : tie.Need-byte-requires Inv-loop μ-loop
-byte-requires c κs = search needs
+shared-slice-read-check-with : tie.Need-shared-slice-read-check-with Inv-loop μ-loop
+shared-slice-read-check-with c = search needs
 
-mul-h : tie.Need-mul-h Inv-loop μ-loop
-mul-h c = search needs
-
-add-h : tie.Need-add-h Inv-loop μ-loop
-add-h c = search needs
+check-with-requires : tie.Need-check-with-requires Inv-loop μ-loop
+check-with-requires c κs = search needs
 
 add-i : tie.Need-add-i Inv-loop μ-loop
 add-i c = search needs
@@ -33,7 +29,7 @@ loop-less : tie.Need-loop-less Inv-loop μ-loop
 loop-less c = search needs
 
 loop-again : tie.Need-loop-again Inv-loop μ-loop
-loop-again c = (omega arith, search (needs, check-turn))
+loop-again c = search (needs, check-turn)
 
 returns : tie.Need-returns Inv-loop μ-loop
 returns c = search (needs, check-done)
@@ -45,9 +41,8 @@ check-of-spec =
     Inv-loop
     μ-loop
     loop-holds
-    byte-requires
-    mul-h
-    add-h
+    shared-slice-read-check-with
+    check-with-requires
     add-i
     loop-less
     loop-again

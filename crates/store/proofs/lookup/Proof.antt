@@ -9,7 +9,7 @@ use Rattle.store.proofs.lookup.Tie as tie
 -- the part that was found lies inside
 inside : (c : tie.After-known-told) → (c .before .from .given .0 .1 .1 .0 ≤ c .before .from .given .0 .1 .1 .1 .0)
     × (c .before .from .given .0 .1 .1 .1 .0 ≤ length (c .before .before .before .before .before .before .args .bytes .now))
-inside c = part-in _ _ _ _ _ _ (c .before .before .before .locate .ensures) _ _ _ _ (c .before .from .given .1)
+inside c = part-in _ _ _ _ _ _ (c .before .before .before .locate .ensures) _ _ _ _ _ (c .before .from .given .1)
 
 locate-requires : tie.Need-locate-requires
 locate-requires c κs = search needs
@@ -57,7 +57,7 @@ returns-2 : tie.Need-returns-2
 returns-2 c = said-bytes _ _ _ _ _ _ (c .before .before .before .locate .ensures) _ (c .before .enum-told2 .given .1)
 
 returns-3 : tie.Need-returns-3
-returns-3 c = part-bytes _ _ _ _ _ _ (c .before .before .before .before .locate .ensures) _ _ _ _ (c .before .before .from .given .1)
+returns-3 c = part-bytes _ _ _ _ _ _ (c .before .before .before .before .locate .ensures) _ _ _ _ _ (c .before .before .from .given .1)
 
 pub lookup-spec : {M : Type 1} → statement M
 lookup-spec =

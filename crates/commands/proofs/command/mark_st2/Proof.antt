@@ -1,5 +1,6 @@
 use borrow.Author.Tests.{eq-eqb, ne-eqb, not-true, not-false}
-use Rattle.commands.specs.Commands.{markOf, flipBit}
+use Rattle.fields.specs.Bytes.{flipBit}
+use Rattle.commands.specs.Commands.{markOf}
 use borrow.Author.Needs.{needs}
 use Rattle.commands.proofs.command.mark_st2.Statement.{statement}
 use Rattle.commands.proofs.command.mark_st2.Tie as tie

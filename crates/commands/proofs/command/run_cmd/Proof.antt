@@ -1,20 +1,25 @@
-use mathlib.Core.Path.{ap, _∙_}
-use mathlib.Core.Bool.{Bool}
-use Prim.Native.Nat.{_%_}
-use lib.ListN.{getD}
-use lib.Dec.{eqb}
-use Rattle.fields.specs.declared.id.SectorId.{SectorId}
-use Rattle.store.specs.Store.{diskOf}
+use mathlib.Core.Path.{_≡_, ap, _∙_}
+use Rattle.codes.specs.declared.command.Command.{Command}
 use Rattle.registers.specs.declared.regs.Written.{Written}
-use Rattle.commands.proofs.Effects.{drive-ready, sensedAs}
-use Rattle.commands.proofs.Runs.{told-kind, ran-quiet, ran-read, ran-stored, quiet-seek, quiet-write, quiet-id, unput-read, still-format}
-use Rattle.commands.specs.Commands.{named, writeData, obeyed}
-use Rattle.registers.specs.View.{slotOf}
-use Rattle.registers.specs.Settle.{regsOf, regsAll, regsShifted}
-use Rattle.commands.specs.Lent.{ran}
+use Rattle.registers.specs.Settle.{regsOf, regsAll, regsResponded}
+use Rattle.commands.specs.Commands.{obeyed}
+use Rattle.commands.specs.Lent.{Ran, ran, ranHere}
+use Rattle.commands.proofs.Effects.{sense-ran, seek-ran}
+use Rattle.commands.proofs.Runs.{told-command, ran-quiet, ran-read, ran-stored, quiet-seek, quiet-write, quiet-id, unput-read, still-format}
 use borrow.Author.Needs.{needs}
 use Rattle.commands.proofs.command.run_cmd.Statement.{statement}
 use Rattle.commands.proofs.command.run_cmd.Tie as tie
+
+-- the command of which it is known which it is
+run-as : (s : tie.Start) (k : Command) (y : Ran) → s .args .which ≡ k → let g = s .args in
+    y ≡ ranHere k (g .t3) (g .regs) (g .table .now) (g .bytes .now) (g .transfer .now)
+    → y ≡ ranHere (g .which) (g .t3) (g .regs) (g .table .now) (g .bytes .now) (g .transfer .now)
+run-as s k y = let g = s .args in told-command (g .regs) (g .table .now) (g .bytes .now) (g .transfer .now) (g .t3) (g .which) k y
+
+-- an answer, with the lent bytes as they came
+same-bytes : (s : tie.Start) (a a′ : Written) → a ≡ a′ → let g = s .args in
+    ran a (g .table .now) (g .bytes .now) (g .transfer .now) ≡ ran a′ (g .table .now) (g .bytes .now) (g .transfer .now)
+same-bytes s a a′ e = let g = s .args in ap (λ (x : Written). ran x (g .table .now) (g .bytes .now) (g .transfer .now)) e
 
 enum-told : tie.Need-enum-told
 enum-told c = search needs
@@ -31,6 +36,9 @@ array-read-sense-drive c = search needs
 sense-drive-requires : tie.Need-sense-drive-requires
 sense-drive-requires c κs = search needs
 
+done-requires-2 : tie.Need-done-requires-2
+done-requires-2 c κs = search needs
+
 enum-told-3 : tie.Need-enum-told-3
 enum-told-3 c = search needs
 
@@ -45,6 +53,9 @@ enum-told-4 c = search needs
 
 sense-interrupt-requires : tie.Need-sense-interrupt-requires
 sense-interrupt-requires c κs = search needs
+
+done-requires-3 : tie.Need-done-requires-3
+done-requires-3 c κs = search needs
 
 enum-told-5 : tie.Need-enum-told-5
 enum-told-5 c = search needs
@@ -63,6 +74,9 @@ enum-told-6 c = search needs
 
 reply1-requires : tie.Need-reply1-requires
 reply1-requires c κs = search needs
+
+done-requires-4 : tie.Need-done-requires-4
+done-requires-4 c κs = search needs
 
 enum-told-7 : tie.Need-enum-told-7
 enum-told-7 c = search needs
@@ -106,56 +120,56 @@ format-track-requires c κs = search needs
 enum-told-12 : tie.Need-enum-told-12
 enum-told-12 c = search needs
 
-done-requires-2 : tie.Need-done-requires-2
-done-requires-2 c κs = search needs
+done-requires-5 : tie.Need-done-requires-5
+done-requires-5 c κs = search needs
 
 enum-told-13 : tie.Need-enum-told-13
 enum-told-13 c = search needs
 
-done-requires-3 : tie.Need-done-requires-3
-done-requires-3 c κs = search needs
+done-requires-6 : tie.Need-done-requires-6
+done-requires-6 c κs = search needs
 
 returns : tie.Need-returns
-unfolding obeyed regsOf regsAll regsShifted
+unfolding obeyed regsOf regsAll regsResponded
 returns c =
-    let args = c .before .before .before .before .before .before .args in
-    told-kind (args .regs) (args .table .now) (args .bytes .now) (args .transfer .now) (args .t3) _ _ _ (c .before .enum-told .given .1)
-    (ap (λ (a : Written). ran a (args .table .now) (args .bytes .now) (args .transfer .now)) (c .done .ensures))
+    let e = c .before in
+    let s = e .before .before .before .before .before in
+    run-as s _ _ (e .enum-told .given .1) (same-bytes s _ _ (c .done .ensures))
 
 returns-2 : tie.Need-returns-2
-unfolding obeyed regsOf regsAll regsShifted
+unfolding obeyed regsOf regsAll regsResponded
 returns-2 c =
-    let args = c .before .before .before .before .before .before .args in
-    told-kind (args .regs) (args .table .now) (args .bytes .now) (args .transfer .now) (args .t3) _ _ _ (c .before .enum-told2 .given .1)
-    (ap (λ (a : Written). ran a (args .table .now) (args .bytes .now) (args .transfer .now)) (c .sense-drive .ensures ∙ ap (λ (v : Bool). sensedAs (args .regs) (getD (args .t3) 1 0) v) (drive-ready (eqb (getD (args .t3) 1 0 % 4) 0) (args .regs .drive .disk) (diskOf (args .table .now) (args .bytes .now)))))
+    let e = c .before .before in
+    let s = e .before .before .before .before .before in
+    run-as s _ _ (e .enum-told2 .given .1) (same-bytes s _ _ (c .done2 .ensures ∙ simp (c .before .sense-drive .ensures) (sense-ran _ _ _ _)))
 
 returns-3 : tie.Need-returns-3
 unfolding obeyed
 returns-3 c =
-    let args = c .before .before .before .before .before .before .args in
-    told-kind (args .regs) (args .table .now) (args .bytes .now) (args .transfer .now) (args .t3) _ _ _ (c .before .enum-told3 .given .1)
-    (ran-quiet (args .regs) (args .table .now) (args .bytes .now) (args .transfer .now) _ _ (quiet-seek _ _) (c .seek .ensures))
+    let e = c .before in
+    let s = e .before .before .before .before .before in
+    run-as s _ _ (e .enum-told3 .given .1) (ran-quiet _ _ _ _ _ _ (quiet-seek _ _) (c .seek .ensures ∙ seek-ran _ _ _ _ _))
 
 returns-4 : tie.Need-returns-4
-unfolding obeyed regsOf regsAll regsShifted
+unfolding obeyed regsOf regsAll regsResponded
 returns-4 c =
-    let args = c .before .before .before .before .before .before .args in
-    told-kind (args .regs) (args .table .now) (args .bytes .now) (args .transfer .now) (args .t3) _ _ _ (c .before .enum-told4 .given .1)
-    (ap (λ (a : Written). ran a (args .table .now) (args .bytes .now) (args .transfer .now)) (c .sense-interrupt .ensures))
+    let e = c .before .before in
+    let s = e .before .before .before .before .before in
+    run-as s _ _ (e .enum-told4 .given .1) (same-bytes s _ _ (c .done3 .ensures ∙ simp (c .before .sense-interrupt .ensures)))
 
 returns-5 : tie.Need-returns-5
 unfolding obeyed
 returns-5 c =
-    let args = c .before .before .before .before .before .before .args in
-    told-kind (args .regs) (args .table .now) (args .bytes .now) (args .transfer .now) (args .t3) _ _ _ (c .before .enum-told5 .given .1)
-    (ran-quiet (args .regs) (args .table .now) (args .bytes .now) (args .transfer .now) _ _ (quiet-seek _ _) (c .seek2 .ensures))
+    let e = c .before in
+    let s = e .before .before .before .before .before in
+    run-as s _ _ (e .enum-told5 .given .1) (ran-quiet _ _ _ _ _ _ (quiet-seek _ _) (c .seek2 .ensures ∙ seek-ran _ _ _ _ _))
 
 returns-6 : tie.Need-returns-6
-unfolding obeyed regsOf regsAll regsShifted
+unfolding obeyed regsOf regsAll regsResponded
 returns-6 c =
-    let args = c .before .before .before .before .before .before .args in
-    told-kind (args .regs) (args .table .now) (args .bytes .now) (args .transfer .now) (args .t3) _ _ _ (c .before .enum-told6 .given .1)
-    (ap (λ (a : Written). ran a (args .table .now) (args .bytes .now) (args .transfer .now)) (c .reply1 .ensures))
+    let e = c .before .before in
+    let s = e .before .before .before .before .before in
+    run-as s _ _ (e .enum-told6 .given .1) (same-bytes s _ _ (c .done4 .ensures ∙ simp (c .before .reply1 .ensures)))
 
 same-length : tie.Need-same-length
 same-length c = search needs
@@ -169,11 +183,10 @@ same-length-3 c = search needs
 returns-7 : tie.Need-returns-7
 unfolding obeyed
 returns-7 c =
-    let args = c .before .before .before .before .before .before .before .before .before .before .before .args in
-    let enum-told7 = c .before .before .before .before .before .before .enum-told7 in
-    let read-data = c .before .before .read-data in
-    told-kind (args .regs) (args .table .now) (args .bytes .now) (args .transfer .now) (args .t3) _ _ _ (enum-told7 .given .1)
-    (ran-read (args .regs) (args .table .now) (args .bytes .now) (args .transfer .now) _ _ _ (unput-read _ _ _ _ _) (read-data .ensures))
+    let k = c .before .before in
+    let e = k .before .before .before .before in
+    let s = e .before .before .before .before .before in
+    run-as s _ _ (e .enum-told7 .given .1) (ran-read _ _ _ _ _ _ _ (unput-read _ _ _ _) (k .read-data .ensures))
 
 same-length-4 : tie.Need-same-length-4
 same-length-4 c = search needs
@@ -187,11 +200,10 @@ same-length-6 c = search needs
 returns-8 : tie.Need-returns-8
 unfolding obeyed
 returns-8 c =
-    let args = c .before .before .before .before .before .before .before .before .before .before .before .args in
-    let enum-told8 = c .before .before .before .before .before .before .enum-told8 in
-    let read-data2 = c .before .before .read-data2 in
-    told-kind (args .regs) (args .table .now) (args .bytes .now) (args .transfer .now) (args .t3) _ _ _ (enum-told8 .given .1)
-    (ran-read (args .regs) (args .table .now) (args .bytes .now) (args .transfer .now) _ _ _ (unput-read _ _ _ _ _) (read-data2 .ensures))
+    let k = c .before .before in
+    let e = k .before .before .before .before in
+    let s = e .before .before .before .before .before in
+    run-as s _ _ (e .enum-told8 .given .1) (ran-read _ _ _ _ _ _ _ (unput-read _ _ _ _) (k .read-data2 .ensures))
 
 same-length-7 : tie.Need-same-length-7
 same-length-7 c = search needs
@@ -202,11 +214,10 @@ same-length-8 c = search needs
 returns-9 : tie.Need-returns-9
 unfolding obeyed
 returns-9 c =
-    let args = c .before .before .before .before .before .before .before .before .before .args in
-    let enum-told9 = c .before .before .before .before .enum-told9 in
-    let sector-id = c .before .before .before .sector-id in
-    told-kind (args .regs) (args .table .now) (args .bytes .now) (args .transfer .now) (args .t3) _ _ _ (enum-told9 .given .1)
-    (ran-quiet (args .regs) (args .table .now) (args .bytes .now) (args .transfer .now) _ _ (quiet-write _ _ _ _) (c .write-data .ensures ∙ ap (λ (n : SectorId). regsOf (writeData (getD (args .t3) 1 0) n (args .regs .drive .cylinder) (named (getD (args .t3) 1 0) (slotOf (args .regs) (args .table .now) (args .bytes .now)))) (args .regs)) (sector-id .ensures)))
+    let i = c .before .before .before in
+    let e = i .before in
+    let s = e .before .before .before .before .before in
+    run-as s _ _ (e .enum-told9 .given .1) (ran-quiet _ _ _ _ _ _ (quiet-write _ _ _) (c .write-data .ensures ∙ simp (i .sector-id .ensures)))
 
 same-length-9 : tie.Need-same-length-9
 same-length-9 c = search needs
@@ -217,10 +228,9 @@ same-length-10 c = search needs
 returns-10 : tie.Need-returns-10
 unfolding obeyed
 returns-10 c =
-    let args = c .before .before .before .before .before .before .before .before .args in
-    let enum-told10 = c .before .before .before .enum-told10 in
-    told-kind (args .regs) (args .table .now) (args .bytes .now) (args .transfer .now) (args .t3) _ _ _ (enum-told10 .given .1)
-    (ran-quiet (args .regs) (args .table .now) (args .bytes .now) (args .transfer .now) _ _ (quiet-id _ _ _ _) (c .read-id .ensures))
+    let e = c .before .before .before in
+    let s = e .before .before .before .before .before in
+    run-as s _ _ (e .enum-told10 .given .1) (ran-quiet _ _ _ _ _ _ (quiet-id _ _ _) (c .read-id .ensures))
 
 same-length-11 : tie.Need-same-length-11
 same-length-11 c = search needs
@@ -231,25 +241,24 @@ same-length-12 c = search needs
 returns-11 : tie.Need-returns-11
 unfolding obeyed
 returns-11 c =
-    let args = c .before .before .before .before .before .before .before .before .before .before .before .before .args in
-    let enum-told11 = c .before .before .before .before .before .before .before .enum-told11 in
-    let format-track = c .before .before .before .before .format-track in
-    told-kind (args .regs) (args .table .now) (args .bytes .now) (args .transfer .now) (args .t3) _ _ _ (enum-told11 .given .1)
-    (ran-stored (args .regs) (args .table .now) (args .bytes .now) (args .transfer .now) _ _ _ _ (still-format _ _ _ _ _ _ _ _) (format-track .ensures))
+    let k = c .before .before .before .before in
+    let e = k .before .before .before in
+    let s = e .before .before .before .before .before in
+    run-as s _ _ (e .enum-told11 .given .1) (ran-stored _ _ _ _ _ _ _ _ (still-format _ _ _) (k .format-track .ensures _))
 
 returns-12 : tie.Need-returns-12
-unfolding obeyed regsOf regsAll regsShifted
+unfolding obeyed regsOf regsAll regsResponded
 returns-12 c =
-    let args = c .before .before .before .before .before .before .args in
-    told-kind (args .regs) (args .table .now) (args .bytes .now) (args .transfer .now) (args .t3) _ _ _ (c .before .enum-told12 .given .1)
-    (ap (λ (a : Written). ran a (args .table .now) (args .bytes .now) (args .transfer .now)) (c .done2 .ensures))
+    let e = c .before in
+    let s = e .before .before .before .before .before in
+    run-as s _ _ (e .enum-told12 .given .1) (same-bytes s _ _ (c .done5 .ensures))
 
 returns-13 : tie.Need-returns-13
-unfolding obeyed regsOf regsAll regsShifted
+unfolding obeyed regsOf regsAll regsResponded
 returns-13 c =
-    let args = c .before .before .before .before .before .before .args in
-    told-kind (args .regs) (args .table .now) (args .bytes .now) (args .transfer .now) (args .t3) _ _ _ (c .before .enum-told13 .given .1)
-    (ap (λ (a : Written). ran a (args .table .now) (args .bytes .now) (args .transfer .now)) (c .done3 .ensures))
+    let e = c .before in
+    let s = e .before .before .before .before .before in
+    run-as s _ _ (e .enum-told13 .given .1) (same-bytes s _ _ (c .done6 .ensures))
 
 pub run-cmd-spec : {M : Type 1} → statement M
 run-cmd-spec =
@@ -260,17 +269,20 @@ run-cmd-spec =
     enum-told-2
     array-read-sense-drive
     sense-drive-requires
+    done-requires-2
     enum-told-3
     array-read-seek
     seek-requires
     enum-told-4
     sense-interrupt-requires
+    done-requires-3
     enum-told-5
     array-read-seek-2
     array-read-seek-3
     seek-requires-2
     enum-told-6
     reply1-requires
+    done-requires-4
     enum-told-7
     read-data-requires
     enum-told-8
@@ -285,9 +297,9 @@ run-cmd-spec =
     enum-told-11
     format-track-requires
     enum-told-12
-    done-requires-2
+    done-requires-5
     enum-told-13
-    done-requires-3
+    done-requires-6
     returns
     returns-2
     returns-3

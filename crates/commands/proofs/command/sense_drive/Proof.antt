@@ -1,12 +1,16 @@
 use mathlib.Core.Path.{sym, _∙_}
-use borrow.Author.Tests.{not-true, not-false}
-use Rattle.commands.proofs.Effects.{sense-no, sense-zero, sense-on}
+use native.Mathlib.Nat.{add-zero}
+use borrow.Author.Tests.{eq-eqb, ne-eqb, not-true, not-false}
+use Rattle.commands.specs.Commands.{senseIf}
 use borrow.Author.Needs.{needs}
 use Rattle.commands.proofs.command.sense_drive.Statement.{statement}
 use Rattle.commands.proofs.command.sense_drive.Tie as tie
 
-ready-requires : tie.Need-ready-requires
-ready-requires c κs = search needs
+named-requires : tie.Need-named-requires
+named-requires c κs = search needs
+
+drive-of-requires : tie.Need-drive-of-requires
+drive-of-requires c κs = search needs
 
 add-reply1 : tie.Need-add-reply1
 add-reply1 c = search needs
@@ -15,7 +19,10 @@ reply1-requires : tie.Need-reply1-requires
 reply1-requires c κs = search needs
 
 returns : tie.Need-returns
-returns c = c .reply1 .ensures ∙ sense-no (c .before .before .before .args .regs) (c .before .before .before .args .c1) _ (sym (not-true _ (c .before .if1 .taken)) ∙ c .before .before .ready .ensures)
+unfolding senseIf
+returns c =
+    let n = c .before .before .before .before in
+    c .reply1 .ensures ∙ simp (sym (n .named .ensures), not-true (n .named .result .disk) (c .before .before .if1 .taken), c .before .drive-of .ensures)
 
 from-c1-requires : tie.Need-from-c1-requires
 from-c1-requires c κs = search needs
@@ -33,31 +40,32 @@ reply1-requires-2 : tie.Need-reply1-requires-2
 reply1-requires-2 c κs = search needs
 
 returns-2 : tie.Need-returns-2
+unfolding senseIf
 returns-2 c =
-    let args = c .before .before .before .before .before .before .before .args in
-    let ready = c .before .before .before .before .before .before .ready in
-    let if1 = c .before .before .before .before .before .if1 in
-    let from-c1 = c .before .before .before .from-c1 in
+    let f = c .before .before .before in
+    let i = f .before in
+    let n = i .before .before in
     c .reply12 .ensures
-    ∙ simp (from-c1 .ensures) (sense-zero (args .regs) (args .c1) _ (sym (not-false _ (if1 .left)) ∙ ready .ensures) (c .before .if2 .taken))
+    ∙ simp (sym (n .named .ensures), not-false (n .named .result .disk) (i .if1 .left), f .from-c1 .ensures, eq-eqb _ _ (c .before .if2 .taken))
 
 reply1-requires-3 : tie.Need-reply1-requires-3
 reply1-requires-3 c κs = search needs
 
 returns-3 : tie.Need-returns-3
+unfolding senseIf
 returns-3 c =
-    let args = c .before .before .before .before .before .before .before .args in
-    let ready = c .before .before .before .before .before .before .ready in
-    let if1 = c .before .before .before .before .before .if1 in
-    let from-c1 = c .before .before .before .from-c1 in
+    let f = c .before .before .before in
+    let i = f .before in
+    let n = i .before .before in
     c .reply13 .ensures
-    ∙ simp (from-c1 .ensures) (sense-on (args .regs) (args .c1) _ (sym (not-false _ (if1 .left)) ∙ ready .ensures) (c .before .if2 .left))
+    ∙ simp (sym (n .named .ensures), not-false (n .named .result .disk) (i .if1 .left), f .from-c1 .ensures, ne-eqb _ _ (c .before .if2 .left), add-zero)
 
 pub sense-drive-spec : {M : Type 1} → statement M
 sense-drive-spec =
     tie.close
     (tie.spec
-    ready-requires
+    named-requires
+    drive-of-requires
     add-reply1
     reply1-requires
     returns

@@ -1,8 +1,6 @@
 use mathlib.Core.Path.{sym, ap, _∙_}
-use Rattle.registers.specs.Settle.{regsShifted, interruptedBy}
 use Rattle.registers.specs.declared.regs.Seek.{Seek}
-use Rattle.registers.specs.declared.regs.Written.{Written}
-use Rattle.store.specs.declared.answer.Done.the-variants.{Good}
+use Rattle.registers.specs.Settle.{regsResponded, interruptedBy}
 use borrow.Author.Needs.{needs}
 use Rattle.commands.proofs.command.sense_interrupt.Statement.{statement}
 use Rattle.commands.proofs.command.sense_interrupt.Tie as tie
@@ -29,30 +27,24 @@ reply2-requires-3 : tie.Need-reply2-requires-3
 reply2-requires-3 c κs = search needs
 
 returns : tie.Need-returns
-unfolding regsShifted interruptedBy
+unfolding regsResponded interruptedBy
 returns c =
-    let args = c .before .before .before .before .args in
-    let r = args .regs in
-    c .reply2 .ensures
-    ∙ sym (ap {B = Written} (λ (s : Seek). record { done = Good; regs = interruptedBy (r .drive .cylinder) r s }) (c .before .enum-told .given .1))
+    let r = c .before .before .before .before .args .regs in
+    c .reply2 .ensures ∙ sym (ap (λ (s : Seek). interruptedBy (r .drive .cylinder) r s) (c .before .enum-told .given .1))
 
 returns-2 : tie.Need-returns-2
-unfolding regsShifted interruptedBy
+unfolding regsResponded interruptedBy
 returns-2 c =
-    let args = c .before .before .before .before .before .args in
-    let enum-told2 = c .before .before .enum-told2 in
-    let r = args .regs in
+    let d = c .before .before in
+    let r = d .before .before .before .args .regs in
     c .reply22 .ensures
-    ∙ simp (c .before .moved .ensures)
-    (sym (ap {B = Written} (λ (s : Seek). record { done = Good; regs = interruptedBy (r .drive .cylinder) r s }) (enum-told2 .given .1)))
+    ∙ simp (c .before .moved .ensures) (sym (ap (λ (s : Seek). interruptedBy (r .drive .cylinder) r s) (d .enum-told2 .given .1)))
 
 returns-3 : tie.Need-returns-3
-unfolding regsShifted interruptedBy
+unfolding regsResponded interruptedBy
 returns-3 c =
-    let args = c .before .before .before .before .args in
-    let r = args .regs in
-    c .reply23 .ensures
-    ∙ sym (ap {B = Written} (λ (s : Seek). record { done = Good; regs = interruptedBy (r .drive .cylinder) r s }) (c .before .enum-told3 .given .1))
+    let r = c .before .before .before .before .args .regs in
+    c .reply23 .ensures ∙ sym (ap (λ (s : Seek). interruptedBy (r .drive .cylinder) r s) (c .before .enum-told3 .given .1))
 
 pub sense-interrupt-spec : {M : Type 1} → statement M
 sense-interrupt-spec =

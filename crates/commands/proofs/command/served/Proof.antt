@@ -10,8 +10,8 @@ cast-regs c = search needs
 array-read-st0 : tie.Need-array-read-st0
 array-read-st0 c = search needs
 
-array-read-t16 : tie.Need-array-read-t16
-array-read-t16 c = search needs
+array-read-t14 : tie.Need-array-read-t14
+array-read-t14 c = search needs
 
 array-read-reply7 : tie.Need-array-read-reply7
 array-read-reply7 c = search needs
@@ -39,7 +39,9 @@ reply7-requires c κs = search needs
 
 returns : tie.Need-returns
 unfolding readReply
-returns c = c .reply7 .ensures ∙ simp (c .before .before .before .from-c1 .ensures, c .before .before .end-st1 .ensures, c .before .mark-st2 .ensures)
+returns c =
+    c .reply7 .ensures
+    ∙ simp (c .before .before .before .from-c1 .ensures, c .before .before .end-st1 .ensures, c .before .mark-st2 .ensures)
 
 pub served-spec : {M : Type 1} → statement M
 served-spec =
@@ -47,7 +49,7 @@ served-spec =
     (tie.spec
     cast-regs
     array-read-st0
-    array-read-t16
+    array-read-t14
     array-read-reply7
     array-read-from-c1
     array-read-from-c1-2

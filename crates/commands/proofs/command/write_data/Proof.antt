@@ -1,28 +1,47 @@
-use mathlib.Core.Path.{sym, ap, _∙_}
+use mathlib.Core.Path.{_≡_, _∙_}
 use borrow.Author.Tests.{not-true, not-false}
-use Rattle.store.specs.declared.answer.Done.the-variants.{Good}
-use Rattle.registers.specs.declared.regs.Written.{Written}
-use Rattle.registers.specs.declared.regs.Regs.{Regs}
-use Rattle.commands.proofs.Effects.{start-none, start-ran}
+use Rattle.store.specs.declared.answer.Has.{Has}
+use Rattle.registers.specs.View.{namedIn}
+use Rattle.registers.specs.Settle.{regsAll, regsResponded, regsOf}
 use Rattle.commands.specs.Commands.{writeData}
-use Rattle.registers.specs.Settle.{regsOf, regsAll, regsShifted}
+use Rattle.commands.proofs.Effects.{startEffect, start-none, start-ran}
 use borrow.Author.Needs.{needs}
 use Rattle.commands.proofs.command.write_data.Statement.{statement}
 use Rattle.commands.proofs.command.write_data.Tie as tie
 
-ready-requires : tie.Need-ready-requires
-ready-requires c κs = search needs
+-- what the search answers
+found : (k : tie.After-has-sector) (a : Has) → k .has-sector .result ≡ a
+    → let g = k .before .before .before .before .before .before .before .args in
+    regsOf (startEffect (g .c1) (g .id) a) (g .regs) ≡ regsOf (writeData (g .c1) (g .id) (namedIn (g .c1) (g .regs) (g .table .now) (g .bytes .now))) (g .regs)
+found k a e =
+    let i = k .before .before in
+    let n = i .before .before in
+    start-ran _ _ _ _ _ (n .named .ensures) _ (not-false (n .named .result .disk) (i .if1 .left)) _ (k .before .head-of .ensures) _ _ e (k .has-sector .ensures)
+
+named-requires : tie.Need-named-requires
+named-requires c κs = search needs
+
+no-id-requires : tie.Need-no-id-requires
+no-id-requires c κs = search needs
 
 not-ready-requires : tie.Need-not-ready-requires
 not-ready-requires c κs = search needs
 
+done-requires : tie.Need-done-requires
+done-requires c κs = search needs
+
 returns : tie.Need-returns
-unfolding writeData regsOf regsAll regsShifted
+unfolding regsOf regsAll regsResponded
 returns c =
-    let args = c .before .before .before .before .before .args in
-    let ready = c .before .before .ready in
-    c .not-ready .ensures
-    ∙ start-none (args .regs) (args .c1) (args .id) (args .table .now) (args .bytes .now) (sym (not-true _ (c .before .if1 .taken)) ∙ ready .ensures)
+    let o = c .before .before in
+    let i = o .before in
+    let n = i .before .before in
+    c .done .ensures
+    ∙ simp (c .before .not-ready .ensures, o .no-id .ensures)
+    (start-none _ _ _ _ _ (n .named .ensures) _ (not-true (n .named .result .disk) (i .if1 .taken)))
+
+head-of-requires : tie.Need-head-of-requires
+head-of-requires c κs = search needs
 
 has-sector-requires : tie.Need-has-sector-requires
 has-sector-requires c κs = search needs
@@ -39,66 +58,55 @@ enum-told c = search needs
 missing-requires : tie.Need-missing-requires
 missing-requires c κs = search needs
 
+done-requires-2 : tie.Need-done-requires-2
+done-requires-2 c κs = search needs
+
 enum-told-2 : tie.Need-enum-told-2
 enum-told-2 c = search needs
 
 started-requires : tie.Need-started-requires
 started-requires c κs = search needs
 
-done-requires : tie.Need-done-requires
-done-requires c κs = search needs
+done-requires-3 : tie.Need-done-requires-3
+done-requires-3 c κs = search needs
 
 returns-2 : tie.Need-returns-2
 unfolding regsOf
 returns-2 c =
-    let args = c .before .before .before .before .before .before .before .before .before .before .args in
-    let ready = c .before .before .before .before .before .before .before .ready in
-    let if1 = c .before .before .before .before .before .before .if1 in
-    let has-sector = c .before .before .before .before .has-sector in
-    let why = c .before .before .why in
-    c .refused .ensures
-    ∙ start-ran (args .regs) (args .c1) (args .id) (args .table .now) (args .bytes .now) _ (sym (not-false _ (if1 .left)) ∙ ready .ensures)
-    (sym (why .given .1) ∙ has-sector .ensures)
+    let w = c .before .before in
+    c .refused .ensures ∙ found (w .before .before) _ (w .why .given .1)
 
 returns-3 : tie.Need-returns-3
-unfolding regsOf regsAll regsShifted
+unfolding regsOf regsAll regsResponded
 returns-3 c =
-    let args = c .before .before .before .before .before .before .before .before .before .args in
-    let ready = c .before .before .before .before .before .before .ready in
-    let if1 = c .before .before .before .before .before .if1 in
-    let has-sector = c .before .before .before .has-sector in
-    c .missing .ensures
-    ∙ start-ran (args .regs) (args .c1) (args .id) (args .table .now) (args .bytes .now) _ (sym (not-false _ (if1 .left)) ∙ ready .ensures)
-    (sym (c .before .enum-told .given .1) ∙ has-sector .ensures)
+    let e = c .before .before in
+    c .done2 .ensures ∙ simp (c .before .missing .ensures) (found (e .before .before) _ (e .enum-told .given .1))
 
 returns-4 : tie.Need-returns-4
-unfolding regsOf regsAll regsShifted
+unfolding regsOf regsAll regsResponded
 returns-4 c =
-    let args = c .before .before .before .before .before .before .before .before .before .before .args in
-    let ready = c .before .before .before .before .before .before .before .ready in
-    let if1 = c .before .before .before .before .before .before .if1 in
-    let has-sector = c .before .before .before .before .has-sector in
-    let enum-told2 = c .before .before .enum-told2 in
-    c .done .ensures
-    ∙ ap {B = Written} (λ (x : Regs). record { done = Good; regs = x }) (c .before .started .ensures)
-    ∙ start-ran (args .regs) (args .c1) (args .id) (args .table .now) (args .bytes .now) _ (sym (not-false _ (if1 .left)) ∙ ready .ensures)
-    (sym (enum-told2 .given .1) ∙ has-sector .ensures)
+    let e = c .before .before in
+    c .done3 .ensures ∙ simp (c .before .started .ensures) (found (e .before .before) _ (e .enum-told2 .given .1))
 
 pub write-data-spec : {M : Type 1} → statement M
 write-data-spec =
     tie.close
     (tie.spec
-    ready-requires
+    named-requires
+    no-id-requires
     not-ready-requires
+    done-requires
     returns
+    head-of-requires
     has-sector-requires
     enum-known-why
     refused-requires
     enum-told
     missing-requires
+    done-requires-2
     enum-told-2
     started-requires
-    done-requires
+    done-requires-3
     returns-2
     returns-3
     returns-4)

@@ -35,7 +35,7 @@ use Rattle.registers.specs.Calls.{statusRead}
 use Rattle.registers.specs.declared.regs.Byte.{Byte}
 use Rattle.registers.proofs.regs.Byte as B
 use Rattle.registers.proofs.regs.Byte.Laws as B′
-use Rattle.floppy.specs.Calls.{shown, shownAs}
+use Rattle.floppy.specs.Calls.{shown, statusCall}
 use Rattle.floppy.specs.declared.Floppy.{Floppy}
 use Rattle.floppy.proofs.Floppy as T
 use Rattle.floppy.proofs.Floppy.Laws as T′
@@ -78,7 +78,7 @@ module _ {M : Type 1} (𝓤 : URA M) (H : Heap 𝓤) (A : Atoms 𝓤) (W : Given
 
   -- what the method ensures, of its answer and the controller's last value
   abbrev Said : (b ν : ℕ) (γ : GName) → Byte → Lasts method.ended (ν ∷ [], tt) (own-ref b γ h, a .1) → Type 0
-  Said b ν γ r ws = shown r (ws .0) ≡ shownAs (statusRead (h .regs)) (h .held)
+  Said b ν γ r ws = shown r (ws .0) ≡ statusCall h
 
   module _ (C : Calls 𝓤 H) (Λ : Loops 𝓤 H) (fm : FmC 𝓤 H (W .laws) C) (known : Triple 𝓤 (C #method) (Method 𝓤 H A at-mem run)) where
     walk : ent 𝓤 (onEntry 𝓤 H A call.signature (at-call .0 .0) (at-call .0 .1) a vals) (WpFn 𝓤 H C Λ code.function (floppy-val h ∷ []) (walkOf 𝓤 H A call.ended stayed (call.clauses 𝓤 H A at-mem run) .post at-call))

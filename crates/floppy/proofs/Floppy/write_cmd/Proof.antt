@@ -36,11 +36,10 @@ use denote.Triple.Entry.{alive, onEntry}
 use denote.Triple.Spec.{tripleOf}
 use denote.Triple.Statement.{Contract, Triple}
 use denote.Triple.Walked.{says, Stays, stay-ref, stay-dropped, gave-slice, walkOf, goes-ref, goes-dropped, goes-gave-slice, ends-at, walked}
-use Rattle.store.specs.declared.answer.Done.{Done}
-use Rattle.store.proofs.answer.Done as B
-use Rattle.store.proofs.answer.Done.Laws as B′
-use Rattle.sending.specs.Calls.{dataWrite}
-use Rattle.floppy.specs.Calls.{wrote, wroteAs}
+use Rattle.registers.specs.declared.regs.Receipt.{Receipt}
+use Rattle.registers.proofs.regs.Receipt as B
+use Rattle.registers.proofs.regs.Receipt.Laws as B′
+use Rattle.floppy.specs.Calls.{wrote, writeCall}
 use Rattle.floppy.specs.declared.After.{After}
 use Rattle.floppy.specs.declared.Floppy.{Floppy}
 use Rattle.floppy.proofs.After as U
@@ -61,11 +60,11 @@ abbrev stayed : Stays (method.ended .signature .params) (method.ended .kept)
 stayed = (stay-ref (0 ∷ []) tt (plain (λ _. T.the-row)), (stay-dropped (plain (λ _. u8)) yes, (gave-slice (1 ∷ []) tt (plain (λ _. u8)), (gave-slice (2 ∷ []) tt (plain (λ _. u8)), (gave-slice (3 ∷ []) tt (plain (λ _. u8)), tt)))))
 
 -- the machine value of the answer, and what the relation of the step's answer says of its two fields
-abbrev done-val : Done → Val
-done-val x = EL.val B.the-type B′.the-laws x
+abbrev receipt-val : Receipt → Val
+receipt-val x = EL.val B.the-type B′.the-laws x
 
-after-done : (r : After) (vs : List Val) → Is U.the-row r vs → Is B.the-row (r .done) (done-val (r .done) ∷ [])
-after-done r vs is = LL.owed U.the-type U′.the-laws r vs is .0
+after-receipt : (r : After) (vs : List Val) → Is U.the-row r vs → Is B.the-row (r .receipt) (receipt-val (r .receipt) ∷ [])
+after-receipt r vs is = LL.owed U.the-type U′.the-laws r vs is .0
 
 after-floppy : (r : After) (vs : List Val) → Is U.the-row r vs → Is T.the-row (r .floppy) (floppy-val (r .floppy) ∷ [])
 after-floppy r vs is = LL.owed U.the-type U′.the-laws r vs is .1 .0
@@ -93,7 +92,7 @@ module _ {M : Type 1} (𝓤 : URA M) (H : Heap 𝓤) (A : Atoms 𝓤) (W : Given
 
   -- what the step ensures, of its answer and the slices' last lists
   abbrev Said : After → Lasts step.ended (κ₁, (κ₂, (κ₃, tt))) (h, a .1) → Type 0
-  Said r ws = wrote r (ws .1 .1 .0) (ws .1 .1 .1 .0) (ws .1 .1 .1 .1 .0) ≡ wroteAs (dataWrite (h .regs) c (h .held) (x₁ .now) (x₂ .now) (x₃ .now))
+  Said r ws = wrote r (ws .1 .1 .0) (ws .1 .1 .1 .0) (ws .1 .1 .1 .1 .0) ≡ writeCall h c (x₁ .now) (x₂ .now) (x₃ .now)
 
   module _ (C : Calls 𝓤 H) (Λ : Loops 𝓤 H) (fm : FmC 𝓤 H (W .laws) C) (known : Triple 𝓤 (C #step) (Step 𝓤 H A at-mem run)) where
     walk : ent 𝓤 (onEntry 𝓤 H A method.signature (at-method .0 .0) (at-method .0 .1) a vals) (WpFn 𝓤 H C Λ code.function (vptr b o ∷ vint w8 c ∷ slice-val x₁ ∷ slice-val x₂ ∷ slice-val x₃ ∷ []) (walkOf 𝓤 H A method.ended stayed (method.clauses 𝓤 H A at-mem run) .post at-method))
@@ -123,14 +122,14 @@ module _ {M : Type 1} (𝓤 : URA M) (H : Heap 𝓤) (A : Atoms 𝓤) (W : Given
         -- [the tokens; the last lists, the last first; the controller's cell; the open borrow; obs; auth; _13; …]: local i at 8 + 2 · (13 − i)
         land ! (from ! (stop !)) (init ! 20 refl (LL.lawful U.the-type U′.the-laws 𝓤 H A W .typed r _ made .0)) $
         assigns ! (of-opd ! (load ! (from ! (fld ! refl (stop !))) (look-in ! 20 (sub ! 1 refl (whole !))))) (from ! (hop ! (look ! 32 refl) (stop !))) (store ! 4 refl (floppy-typed 𝓤 H A W (r .floppy) _ (after-floppy r _ made))) $
-        assigns ! (of-opd ! (load ! (from ! (fld ! refl (stop !))) (look-in ! 20 (sub ! 0 refl (whole !))))) (from ! (stop !)) (init ! 34 refl (EL.lawful B.the-type B′.the-laws 𝓤 H A W tt .typed (r .done) _ (after-done r _ made) .0)) $
+        assigns ! (of-opd ! (load ! (from ! (fld ! refl (stop !))) (look-in ! 20 (sub ! 0 refl (whole !))))) (from ! (stop !)) (init ! 34 refl (EL.lawful B.the-type B′.the-laws 𝓤 H A W tt .typed (r .receipt) _ (after-receipt r _ made) .0)) $
         move ! (4 ∷ 5 ∷ 6 ∷ 7 ∷ []) $ borrow-closes ! tt (r .floppy) (after-floppy r _ made) b o $
         -- [obs; the borrow; its token; the tokens; the last lists; _13; …]: local i at 7 + 2 · (13 − i)
         returns ! (look ! 33 refl) $ forget ! 7 refl $ forget ! 9 refl $ forget ! 11 refl $ forget ! 13 refl $ forget ! 15 refl $ forget ! 17 refl $ forget ! 19 refl $ forget ! 21 refl $ forget ! 23 refl $ forget ! 25 refl $ forget ! 27 refl $ forget ! 29 refl $ forget ! 31 refl $ forget ! 33 refl $
         move ! (33 ∷ 34 ∷ []) $ free1 ! $ move ! (31 ∷ 32 ∷ []) $ free1 ! $ move ! (29 ∷ 30 ∷ []) $ free1 ! $ move ! (27 ∷ 28 ∷ []) $ free1 ! $ move ! (25 ∷ 26 ∷ []) $ free1 ! $ move ! (23 ∷ 24 ∷ []) $ free1 ! $ move ! (21 ∷ 22 ∷ []) $ free1 ! $ move ! (19 ∷ 20 ∷ []) $ free1 ! $ move ! (17 ∷ 18 ∷ []) $ free1 ! $ move ! (15 ∷ 16 ∷ []) $ free1 ! $ move ! (13 ∷ 14 ∷ []) $ free1 ! $ move ! (11 ∷ 12 ∷ []) $ free1 ! $ move ! (9 ∷ 10 ∷ []) $ free1 ! $ move ! (7 ∷ 8 ∷ []) $ free1 ! $ free0 ! $ keep ! (0 ∷ 1 ∷ 2 ∷ 3 ∷ 6 ∷ 5 ∷ 4 ∷ []) $
-        suffices ! _ (ends-at 𝓤 H A method.ended stayed (method.clauses 𝓤 H A at-mem run) W at-method (done-val (r .done)) (r .done) (r .floppy, (tt, (ws .1 .1 .0, (ws .1 .1 .1 .0, (ws .1 .1 .1 .1 .0, tt))))) (tt, (tt, (e₁, (e₂, (e₃, tt)))))) $
+        suffices ! _ (ends-at 𝓤 H A method.ended stayed (method.clauses 𝓤 H A at-mem run) W at-method (receipt-val (r .receipt)) (r .receipt) (r .floppy, (tt, (ws .1 .1 .0, (ws .1 .1 .1 .0, (ws .1 .1 .1 .1 .0, tt))))) (tt, (tt, (e₁, (e₂, (e₃, tt)))))) $
         says ! e $ move ! (2 ∷ 3 ∷ []) $ join ! $ frame ! $ feqI ! (List Val) (vptr b o ∷ []) (vptr b o ∷ []) refl $ fjoin3 ! $
-        nothing ! $ move ! (4 ∷ 0 ∷ []) $ fjoin ! $ move ! (3 ∷ 0 ∷ []) $ fjoin ! $ move ! (2 ∷ 0 ∷ []) $ fjoin ! $ nothing ! $ fjoin ! $ move ! (1 ∷ 0 ∷ []) $ fjoin ! $ frame ! $ owned ! B.the-row (Is B.the-row) (EL.makes B.the-type B′.the-plain 𝓤 H A) (r .done) _ (after-done r _ made) $ done !))))))))))))))))))))
+        nothing ! $ move ! (4 ∷ 0 ∷ []) $ fjoin ! $ move ! (3 ∷ 0 ∷ []) $ fjoin ! $ move ! (2 ∷ 0 ∷ []) $ fjoin ! $ nothing ! $ fjoin ! $ move ! (1 ∷ 0 ∷ []) $ fjoin ! $ frame ! $ owned ! B.the-row (Is B.the-row) (EL.makes B.the-type B′.the-plain 𝓤 H A) (r .receipt) _ (after-receipt r _ made) $ done !))))))))))))))))))))
 
 pub write-cmd-spec : {M : Type 1} → stated.statement M
 unfolding code.routine

@@ -37,11 +37,10 @@ use denote.Triple.Entry.{alive, onEntry}
 use denote.Triple.Spec.{tripleOf}
 use denote.Triple.Statement.{Contract, Triple}
 use denote.Triple.Walked.{says, Stays, stay-dropped, gave-slice, walkOf, goes-dropped, goes-gave-slice, ends-at, walked}
-use Rattle.store.specs.declared.answer.Done.{Done}
-use Rattle.store.proofs.answer.Done as B
-use Rattle.store.proofs.answer.Done.Laws as B′
-use Rattle.sending.specs.Calls.{dataWrite}
-use Rattle.floppy.specs.Calls.{after, wrote, wroteAs}
+use Rattle.registers.specs.declared.regs.Receipt.{Receipt}
+use Rattle.registers.proofs.regs.Receipt as B
+use Rattle.registers.proofs.regs.Receipt.Laws as B′
+use Rattle.floppy.specs.Calls.{sentAs, wrote, writeCall}
 use Rattle.floppy.specs.declared.After.{After}
 use Rattle.floppy.specs.declared.Floppy.{Floppy}
 use Rattle.floppy.proofs.After as U
@@ -66,8 +65,8 @@ stayed = (stay-dropped (plain (λ _. T.the-row)) yes, (stay-dropped (plain (λ _
 abbrev after-val : After → Val
 after-val s = LL.val U.the-type U′.the-laws s
 
-after-is : (d : Done) (f : Floppy) → Is B.the-row d (EL.val B.the-type B′.the-laws d ∷ []) → Is T.the-row f (floppy-val f ∷ []) → Is U.the-row (after d f) (after-val (after d f) ∷ [])
-after-is d f is there = LL.owes U.the-type U′.the-laws (after d f) (is, (there, tt))
+after-is : (d : Receipt) (f : Floppy) → Is B.the-row d (EL.val B.the-type B′.the-laws d ∷ []) → Is T.the-row f (floppy-val f ∷ []) → Is U.the-row (sentAs d f) (after-val (sentAs d f) ∷ [])
+after-is d f is there = LL.owes U.the-type U′.the-laws (sentAs d f) (is, (there, tt))
 
 -- the contract that the proof cites
 abbrev Method : {M : Type 1} (𝓤 : URA M) (H : Heap 𝓤) (A : Atoms 𝓤) (at-mem : Memory → SProp 𝓤) (run : Routine → Fun 𝓤) → Contract 𝓤
@@ -91,8 +90,8 @@ module _ {M : Type 1} (𝓤 : URA M) (H : Heap 𝓤) (A : Atoms 𝓤) (W : Given
   tokens = alive 𝓤 H A call.signature (κ₁, (κ₂, (κ₃, tt))) (q₁, (q₂, (q₃, tt)))
 
   -- what the method ensures, of its answer, the controller's last value and the slices' last lists
-  abbrev Said : (b ν : ℕ) (γ : GName) → Done → Lasts method.ended (ν ∷ [], (κ₁, (κ₂, (κ₃, tt)))) (own-ref b γ h, a .1) → Type 0
-  Said b ν γ r ws = wrote (after r (ws .0)) (ws .1 .1 .0) (ws .1 .1 .1 .0) (ws .1 .1 .1 .1 .0) ≡ wroteAs (dataWrite (h .regs) c (h .held) (x₁ .now) (x₂ .now) (x₃ .now))
+  abbrev Said : (b ν : ℕ) (γ : GName) → Receipt → Lasts method.ended (ν ∷ [], (κ₁, (κ₂, (κ₃, tt)))) (own-ref b γ h, a .1) → Type 0
+  Said b ν γ r ws = wrote (sentAs r (ws .0)) (ws .1 .1 .0) (ws .1 .1 .1 .0) (ws .1 .1 .1 .1 .0) ≡ writeCall h c (x₁ .now) (x₂ .now) (x₃ .now)
 
   module _ (C : Calls 𝓤 H) (Λ : Loops 𝓤 H) (fm : FmC 𝓤 H (W .laws) C) (known : Triple 𝓤 (C #method) (Method 𝓤 H A at-mem run)) where
     walk : ent 𝓤 (onEntry 𝓤 H A call.signature (at-call .0 .0) (at-call .0 .1) a vals) (WpFn 𝓤 H C Λ code.function (floppy-val h ∷ vint w8 c ∷ slice-val x₁ ∷ slice-val x₂ ∷ slice-val x₃ ∷ []) (walkOf 𝓤 H A call.ended stayed (call.clauses 𝓤 H A at-mem run) .post at-call))
@@ -124,13 +123,13 @@ module _ {M : Type 1} (𝓤 : URA M) (H : Heap 𝓤) (A : Atoms 𝓤) (W : Given
         -- [the last lists, the last first; _6; the tokens; _15; …; _7; …; the rest of _6; _5; …; _0; …]
         land ! (from ! (stop !)) (init ! 21 refl (EL.lawful B.the-type B′.the-laws 𝓤 H A W tt .typed r _ made .0)) $
         assigns ! (of-opd ! (load ! (from ! (stop !)) (look ! 3 refl))) (from ! (stop !)) (init ! 5 refl (floppy-typed 𝓤 H A W (ws .0) _ back)) $
-        assigns ! (agg ! (and-then ! (load ! (from ! (stop !)) (look ! 21 refl)) (and-then ! (load ! (from ! (stop !)) (look ! 5 refl)) (no-more !)))) (from ! (stop !)) (init ! 34 refl (LL.lawful U.the-type U′.the-laws 𝓤 H A W .typed (after r (ws .0)) _ (after-is r (ws .0) made back) .0)) $
+        assigns ! (agg ! (and-then ! (load ! (from ! (stop !)) (look ! 21 refl)) (and-then ! (load ! (from ! (stop !)) (look ! 5 refl)) (no-more !)))) (from ! (stop !)) (init ! 34 refl (LL.lawful U.the-type U′.the-laws 𝓤 H A W .typed (sentAs r (ws .0)) _ (after-is r (ws .0) made back) .0)) $
         returns ! (look ! 34 refl) $ forget ! 3 refl $ forget ! 5 refl $ forget ! 7 refl $ forget ! 9 refl $ forget ! 11 refl $ forget ! 13 refl $ forget ! 15 refl $ forget ! 17 refl $ forget ! 19 refl $ forget ! 21 refl $ forget ! 24 refl $ forget ! 26 refl $ forget ! 28 refl $ forget ! 30 refl $ forget ! 32 refl $ forget ! 34 refl $
         move ! (34 ∷ 35 ∷ []) $ free1 ! $ move ! (32 ∷ 33 ∷ []) $ free1 ! $ move ! (30 ∷ 31 ∷ []) $ free1 ! $ move ! (28 ∷ 29 ∷ []) $ free1 ! $ move ! (26 ∷ 27 ∷ []) $ free1 ! $ move ! (24 ∷ 25 ∷ []) $ free1 ! $ move ! (3 ∷ 23 ∷ []) $ free1 ! $ move ! (20 ∷ 21 ∷ []) $ free1 ! $ move ! (18 ∷ 19 ∷ []) $ free1 ! $ move ! (16 ∷ 17 ∷ []) $ free1 ! $ move ! (14 ∷ 15 ∷ []) $ free1 ! $ move ! (12 ∷ 13 ∷ []) $ free1 ! $ move ! (10 ∷ 11 ∷ []) $ free1 ! $ move ! (8 ∷ 9 ∷ []) $ free1 ! $ move ! (6 ∷ 7 ∷ []) $ free1 ! $ move ! (4 ∷ 5 ∷ []) $ free1 ! $ free0 ! $
         -- [the last lists, the last first; the tokens]
-        suffices ! _ (ends-at 𝓤 H A call.ended stayed (call.clauses 𝓤 H A at-mem run) W at-call (after-val (after r (ws .0))) (after r (ws .0)) (tt, (tt, (ws .1 .1 .0, (ws .1 .1 .1 .0, (ws .1 .1 .1 .1 .0, tt))))) (tt, (tt, (e₁, (e₂, (e₃, tt)))))) $
+        suffices ! _ (ends-at 𝓤 H A call.ended stayed (call.clauses 𝓤 H A at-mem run) W at-call (after-val (sentAs r (ws .0))) (sentAs r (ws .0)) (tt, (tt, (ws .1 .1 .0, (ws .1 .1 .1 .0, (ws .1 .1 .1 .1 .0, tt))))) (tt, (tt, (e₁, (e₂, (e₃, tt)))))) $
         says ! e $ move ! (3 ∷ []) $ frame ! $ nothing ! $ move ! (1 ∷ 0 ∷ []) $ fjoin ! $ move ! (1 ∷ 0 ∷ []) $ fjoin ! $ move ! (1 ∷ 0 ∷ []) $ fjoin ! $ nothing ! $ fjoin ! $ nothing ! $ fjoin ! $ frame ! $
-        owned ! U.the-row (Is U.the-row) (LL.makes U.the-type U′.the-plain 𝓤 H A) (after r (ws .0)) _ (after-is r (ws .0) made back) $ done !)))))))))))))))))))))))
+        owned ! U.the-row (Is U.the-row) (LL.makes U.the-type U′.the-plain 𝓤 H A) (sentAs r (ws .0)) _ (after-is r (ws .0) made back) $ done !)))))))))))))))))))))))
 
 pub write-lent-spec : {M : Type 1} → stated.statement M
 unfolding code.routine

@@ -3,8 +3,8 @@ use borrow.Author.Needs.{needs}
 use Rattle.image.proofs.walk.open.Statement.{statement}
 use Rattle.image.proofs.walk.open.Tie as tie
 
-kind-of-requires : tie.Need-kind-of-requires
-kind-of-requires c κs = search needs
+read-signature-requires : tie.Need-read-signature-requires
+read-signature-requires c κs = search needs
 
 enum-known-why : tie.Need-enum-known-why
 enum-known-why c = search needs
@@ -21,21 +21,21 @@ table-end-requires c κs = search needs
 returns : tie.Need-returns
 returns c =
     let d = c .before .before .before .before in
-    open-short _ _ (d .before .before .kind-of .ensures) _ (d .kind .given .1) _ _ (c .before .before .entries-of .ensures .0) (c .before .table-end .ensures) (c .if1 .taken)
+    open-short _ _ (d .before .before .read-signature .ensures) _ (d .kind .given .1) _ _ (c .before .before .entries-of .ensures .0) (c .before .table-end .ensures) (c .if1 .taken)
 
 returns-2 : tie.Need-returns-2
-returns-2 c = open-refused _ _ (c .before .before .before .kind-of .ensures) _ (c .before .why .given .1)
+returns-2 c = open-refused _ _ (c .before .before .before .read-signature .ensures) _ (c .before .why .given .1)
 
 returns-3 : tie.Need-returns-3
 returns-3 c =
     let d = c .before .before .before .before in
-    open-ready _ _ (d .before .before .kind-of .ensures) _ (d .kind .given .1) _ _ (c .before .before .entries-of .ensures .0) (c .before .table-end .ensures) (c .if1 .left)
+    open-ready _ _ (d .before .before .read-signature .ensures) _ (d .kind .given .1) _ _ (c .before .before .entries-of .ensures .0) (c .before .table-end .ensures) (c .if1 .left)
 
 pub open-spec : {M : Type 1} → statement M
 open-spec =
     tie.close
     (tie.spec
-    kind-of-requires
+    read-signature-requires
     enum-known-why
     enum-known-kind
     entries-of-requires

@@ -7,10 +7,10 @@ use Rattle.image.proofs.walk.totals_of.Statement.{statement}
 use Rattle.image.proofs.walk.totals_of.Tie as tie
 
 abbrev Inv-loop : tie.InvT-loop
-Inv-loop image kind walk₀ tracks₀ sectors₀ bytes₀ walk tracks sectors bytes = Counted image kind walk₀ walk tracks sectors bytes
+Inv-loop image start walk₀ tracks₀ sectors₀ bytes₀ walk tracks sectors bytes = Counted image start walk tracks sectors bytes
 
 abbrev μ-loop : tie.MeasureT-loop
-μ-loop image kind walk₀ tracks₀ sectors₀ bytes₀ walk tracks sectors bytes = walk .entries - walk .entry
+μ-loop image start walk₀ tracks₀ sectors₀ bytes₀ walk tracks sectors bytes = walk .entries - walk .entry
 
 -- what is known where an entry has no track, and where a track was handed out
 absent : (c : tie.After-rest Inv-loop μ-loop)
@@ -22,7 +22,7 @@ handed : (c : tie.After-head Inv-loop μ-loop)
 handed c = says-of _ _ _ _ (c .before .before .step .ensures) (c .head .given .1)
 
 loop-holds : tie.Need-loop-holds Inv-loop μ-loop
-loop-holds c = count-start _ _ _ (c .before .pre)
+loop-holds c = count-start _ _ (c .before .pre)
 
 step-requires : tie.Need-step-requires Inv-loop μ-loop
 step-requires c κs = search needs
@@ -33,7 +33,7 @@ enum-known-why c = search needs
 returns : tie.Need-returns Inv-loop μ-loop
 returns c =
     let d = c .before .before .before in
-    count-refused _ _ _ _ _ _ _ (d .before .loop .inv) _ (says-of _ _ _ _ (d .step .ensures) (c .before .why .given .1))
+    count-refused _ _ _ _ _ _ (d .before .loop .inv) _ (says-of _ _ _ _ (d .step .ensures) (c .before .why .given .1))
 
 enum-told : tie.Need-enum-told Inv-loop μ-loop
 enum-told c = search needs
@@ -41,7 +41,7 @@ enum-told c = search needs
 returns-2 : tie.Need-returns-2 Inv-loop μ-loop
 returns-2 c =
     let d = c .before .before in
-    count-end _ _ _ _ _ _ _ (d .before .loop .inv) (says-of _ _ _ _ (d .step .ensures) (c .enum-told .given .1))
+    count-end _ _ _ _ _ _ (d .before .loop .inv) (says-of _ _ _ _ (d .step .ensures) (c .enum-told .given .1))
 
 enum-known-rest : tie.Need-enum-known-rest Inv-loop μ-loop
 enum-known-rest c = search needs
@@ -50,7 +50,7 @@ loop-less : tie.Need-loop-less Inv-loop μ-loop
 loop-less c = falls _ _ (absent (c .before) .0)
 
 loop-again : tie.Need-loop-again Inv-loop μ-loop
-loop-again c = count-absent _ _ _ _ _ _ _ (c .before .before .before .before .loop .inv) _ (absent (c .before))
+loop-again c = count-absent _ _ _ _ _ _ (c .before .before .before .before .loop .inv) _ (absent (c .before))
 
 enum-known-head : tie.Need-enum-known-head Inv-loop μ-loop
 enum-known-head c = search needs
@@ -76,7 +76,7 @@ loop-less-2 c = falls _ _ (handed (c .before .before .before) .moved)
 loop-again-2 : tie.Need-loop-again-2 Inv-loop μ-loop
 loop-again-2 c =
     let d = c .before .before .before in
-    count-track _ _ _ _ _ _ _ (d .before .before .before .loop .inv) _ _ (handed d) (search needs) (search needs)
+    count-track _ _ _ _ _ _ (d .before .before .before .loop .inv) _ _ (handed d) (search needs) (search needs)
 
 pub totals-of-spec : {M : Type 1} → statement M
 totals-of-spec =

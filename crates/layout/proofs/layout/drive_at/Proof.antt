@@ -2,27 +2,21 @@ use borrow.Author.Needs.{needs}
 use Rattle.layout.proofs.layout.drive_at.Statement.{statement}
 use Rattle.layout.proofs.layout.drive_at.Tie as tie
 
--- src/layout.rt:144:19
 shared-slice-read-t3 : tie.Need-shared-slice-read-t3
 shared-slice-read-t3 c = search needs
 
--- src/layout.rt:145:23
 shared-slice-read-seek-at : tie.Need-shared-slice-read-seek-at
 shared-slice-read-seek-at c = search needs
 
--- src/layout.rt:145:15
 seek-at-requires : tie.Need-seek-at-requires
 seek-at-requires c κs = search needs
 
--- src/layout.rt:146:23
 shared-slice-read-flag-at : tie.Need-shared-slice-read-flag-at
 shared-slice-read-flag-at c = search needs
 
--- src/layout.rt:146:15
 flag-at-requires : tie.Need-flag-at-requires
 flag-at-requires c κs = search needs
 
--- src/layout.rt:139:1
 returns : tie.Need-returns
 returns c = simp (c .before .before .seek-at .ensures, c .flag-at .ensures)
 

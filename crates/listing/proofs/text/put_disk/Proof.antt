@@ -5,19 +5,19 @@ use Rattle.listing.proofs.text.put_disk.Statement.{statement}
 use Rattle.listing.proofs.text.put_disk.Tie as tie
 
 put-kind-requires : tie.Need-put-kind-requires
-put-kind-requires c κs = omega (arith, totals-length (c .before .before .args .totals))
+put-kind-requires c κs = omega (arith, totals-length (c .before .before .args .kind) (c .before .before .args .totals))
 
 slice-aggregate-put-field : tie.Need-slice-aggregate-put-field
 slice-aggregate-put-field c = search needs
 
 put-field-requires : tie.Need-put-field-requires
-put-field-requires c κs = omega (arith, totals-length (c .before .before .before .before .before .before .before .args .totals))
+put-field-requires c κs = omega (arith, totals-length (c .before .before .before .before .before .before .before .args .kind) (c .before .before .before .before .before .before .before .args .totals))
 
 slice-aggregate-put-field-2 : tie.Need-slice-aggregate-put-field-2
 slice-aggregate-put-field-2 c = search needs
 
 put-field-requires-2 : tie.Need-put-field-requires-2
-put-field-requires-2 c κs = omega (arith, totals-length (c .before .before .before .before .before .before .before .before .before .before .before .before .args .totals))
+put-field-requires-2 c κs = omega (arith, totals-length (c .before .before .before .before .before .before .before .before .before .before .before .before .args .kind) (c .before .before .before .before .before .before .before .before .before .before .before .before .args .totals))
 
 slice-aggregate-put-field-3 : tie.Need-slice-aggregate-put-field-3
 slice-aggregate-put-field-3 c = search needs
@@ -25,7 +25,7 @@ slice-aggregate-put-field-3 c = search needs
 put-field-requires-3 : tie.Need-put-field-requires-3
 put-field-requires-3 c κs =
     let args = c .before .before .before .before .before .before .before .before .before .before .before .before .before .before .before .before .before .args in
-    omega (arith, totals-length (args .totals))
+    omega (arith, totals-length (args .kind) (args .totals))
 
 slice-aggregate-put-word : tie.Need-slice-aggregate-put-word
 slice-aggregate-put-word c = search needs
@@ -33,7 +33,7 @@ slice-aggregate-put-word c = search needs
 put-word-requires : tie.Need-put-word-requires
 put-word-requires c κs =
     let args = c .before .before .before .before .before .before .before .before .before .before .before .before .before .before .before .before .before .before .before .before .before .before .args in
-    omega (arith, totals-length (args .totals))
+    omega (arith, totals-length (args .kind) (args .totals))
 
 same-length : tie.Need-same-length
 same-length c = search needs
@@ -45,7 +45,7 @@ returns c =
     let f = e .before .before .before .before .before in
     let g = f .before .before .before .before .before in
     let h = g .before .before .before .before .before in
-    totals-laid _ (omega arith) (h .put-kind .ensures) (g .put-field .ensures) (f .put-field2 .ensures) (e .put-field3 .ensures) (d .put-word .ensures)
+    totals-laid _ _ (omega arith) (h .put-kind .ensures) (g .put-field .ensures) (f .put-field2 .ensures) (e .put-field3 .ensures) (d .put-word .ensures)
 
 pub put-disk-spec : {M : Type 1} → statement M
 put-disk-spec =

@@ -37,13 +37,13 @@ put-field-requires c κs =
 slice-aggregate-put-field-2 : tie.Need-slice-aggregate-put-field-2
 slice-aggregate-put-field-2 c = search needs
 
-copies-of-requires : tie.Need-copies-of-requires
-copies-of-requires c κs = search needs
+copies-requires : tie.Need-copies-requires
+copies-requires c κs = search needs
 
 put-field-requires-2 : tie.Need-put-field-requires-2
 put-field-requires-2 c κs =
     let args = c .before .before .before .before .before .before .before .before .before .before .before .before .before .before .before .before .before .before .before .before .before .before .before .before .before .before .before .args in
-    omega (arith, row-length (args .row), ap (λ (k : ℕ). length (decimal k)) (c .copies-of .ensures))
+    omega (arith, row-length (args .row), ap (λ (k : ℕ). length (decimal k)) (c .copies .ensures))
 
 slice-aggregate-put-word : tie.Need-slice-aggregate-put-word
 slice-aggregate-put-word c = search needs
@@ -57,7 +57,7 @@ put-word-requires c κs =
     let h = g .before .before .before .before .before in
     let i = h .before .before .before .before .before in
     let j = i .before .before .before .before .before .before .before in
-    omega (arith, row-length (j .args .row), ap (λ (k : ℕ). length (decimal k)) (e .copies-of .ensures), j .pre, i .put-id .ensures .behind, h .put-byte .ensures .behind, g .put-byte2 .ensures .behind, f .put-field .ensures .behind, d .put-field2 .ensures .behind)
+    omega (arith, row-length (j .args .row), ap (λ (k : ℕ). length (decimal k)) (e .copies .ensures), j .pre, i .put-id .ensures .behind, h .put-byte .ensures .behind, g .put-byte2 .ensures .behind, f .put-field .ensures .behind, d .put-field2 .ensures .behind)
 
 same-length : tie.Need-same-length
 same-length c = search needs
@@ -72,7 +72,7 @@ returns c =
     let i = h .before .before .before .before .before in
     let j = i .before .before .before .before .before in
     let l = j .before .before .before .before .before .before .before in
-    row-laid _ _ (f .copies-of .ensures) (l .pre) (j .put-id .ensures) (i .put-byte .ensures) (h .put-byte2 .ensures) (g .put-field .ensures) (e .put-field2 .ensures) (d .put-word .ensures)
+    row-laid _ _ (f .copies .ensures) (l .pre) (j .put-id .ensures) (i .put-byte .ensures) (h .put-byte2 .ensures) (g .put-field .ensures) (e .put-field2 .ensures) (d .put-word .ensures)
 
 pub put-row-spec : {M : Type 1} → statement M
 put-row-spec =
@@ -87,7 +87,7 @@ put-row-spec =
     slice-aggregate-put-field
     put-field-requires
     slice-aggregate-put-field-2
-    copies-of-requires
+    copies-requires
     put-field-requires-2
     slice-aggregate-put-word
     put-word-requires

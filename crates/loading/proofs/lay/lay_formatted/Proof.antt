@@ -32,9 +32,10 @@ returns c =
     let f = c .before .before in
     let r = f .before .before .before .before .before in
     let h = r .before .before .before .before in
-    let a = h .before .before .before .before in (
-      two-parts _ _ _ _ _ _ _ (h .put-head .ensures) (r .put-blanks .ensures) refl (omega arith) ∙ ap (over _ _) (formatted-rows (a .args .head)),
-      f .fill .ensures ∙ ap (over _ _) (formatted-bytes (a .args .head) (omega arith)),
+    let a = h .before .before .before .before .before in (
+      two-parts _ _ _ _ _ _ _ (h .put-head .ensures) (r .put-blanks .ensures) refl (omega arith)
+          ∙ ap (over _ _) (formatted-rows (a .args .head) (a .args .ids .now)),
+      f .fill .ensures ∙ ap (over _ _) (formatted-bytes (a .args .head) (a .args .ids .now) (a .pre .1 .1)),
     )
 
 pub lay-formatted-spec : {M : Type 1} → statement M

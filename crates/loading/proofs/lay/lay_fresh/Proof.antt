@@ -1,6 +1,6 @@
 use Prim.Native.Nat.{_-_}
 use native.Mathlib.Omega.{arith}
-use Rattle.loading.proofs.Lays.{Freshing, size-2, fresh-start, fresh-again, fresh-done}
+use Rattle.loading.proofs.Lays.{Freshing, fresh-start, fresh-again, fresh-done}
 use borrow.Author.Needs.{needs}
 use Rattle.loading.proofs.lay.lay_fresh.Statement.{statement}
 use Rattle.loading.proofs.lay.lay_fresh.Tie as tie
@@ -15,10 +15,10 @@ abbrev μ-loop : tie.MeasureT-loop
 loop-holds : tie.Need-loop-holds Inv-loop μ-loop
 loop-holds c = let p = c .before .before .pre in fresh-start _ _ (p .0) (p .1)
 
-lay-formatted-requires : tie.Need-lay-formatted-requires Inv-loop μ-loop
-lay-formatted-requires c κs =
+lay-fresh-track-requires : tie.Need-lay-fresh-track-requires Inv-loop μ-loop
+lay-fresh-track-requires c κs =
     let r = c .before .before .before .loop .inv in
-    (omega (arith, r .row, r .same-table), (omega (arith, r .byte, r .same-bytes), omega (arith, size-2)))
+    (omega (arith, r .row, r .same-table), omega (arith, r .byte, r .same-bytes))
 
 add-at : tie.Need-add-at Inv-loop μ-loop
 add-at c = let r = c .before .before .before .before .before .before .before .before .loop .inv in omega (arith, r .row, r .byte, r .within)
@@ -37,7 +37,7 @@ loop-again c =
     let d = c .before .before .before .before in
     let l = d .before .before .before .before in
     let p = l .before .before .before .pre in
-    fresh-again _ _ (p .0) (p .1) _ _ _ _ _ (l .loop .inv) (d .before .before .before .loop-test .taken) _ _ (d .lay-formatted .ensures .0) (d .lay-formatted .ensures .1)
+    fresh-again _ _ (p .0) (p .1) _ _ _ _ _ (l .loop .inv) (d .before .before .before .loop-test .taken) _ _ (d .lay-fresh-track .ensures .0) (d .lay-fresh-track .ensures .1)
 
 same-length : tie.Need-same-length Inv-loop μ-loop
 same-length c = c .before .loop .inv .same-table
@@ -55,7 +55,7 @@ lay-fresh-spec =
     Inv-loop
     μ-loop
     loop-holds
-    lay-formatted-requires
+    lay-fresh-track-requires
     add-at
     add-place
     add-cylinder

@@ -2,9 +2,8 @@ use mathlib.Core.Path.{refl, ap, _∙_}
 use Prim.Native.Nat.{_<_}
 use native.Mathlib.Omega.{arith}
 use lib.ListN.{length}
-use Rattle.store.specs.declared.answer.Done.the-variants.{Good}
-use Rattle.registers.specs.declared.regs.Written.{Written}
-use Rattle.registers.specs.declared.regs.Regs.{Regs}
+use Rattle.fields.specs.Capacities.{mostHeld}
+use Rattle.registers.specs.Settle.{accepted}
 use Rattle.fields.proofs.Sizes.{size-most}
 use Rattle.sending.proofs.Sends.{set-room, set-count, set-few, set-in, data-part, data-good, data-refused}
 use borrow.Author.Needs.{needs}
@@ -15,7 +14,7 @@ use Rattle.sending.proofs.write.data_byte.Tie as tie
 room : (s : tie.Start) → s .args .regs .write .taken < length (s .args .held .now)
 room s = omega (arith, size-most (s .args .regs .write .id .n), s .pre .0, s .pre .1)
 
-small : (s : tie.Start) → s .args .regs .write .taken < 1024
+small : (s : tie.Start) → s .args .regs .write .taken < mostHeld
 small s = omega (arith, size-most (s .args .regs .write .id .n), s .pre .1)
 
 cast-at : tie.Need-cast-at
@@ -49,7 +48,7 @@ returns c =
     let holds = c .before .before .before .holds in
     let len = c .before .before .len in
     λ x. data-part (args .regs) (args .b) (args .held .now) (args .table .now) (args .bytes .now) x (room start) (len .result) _ (len .ensures)
-    (c .before .if1 .taken) (c .done .ensures ∙ ap {B = Written} (λ (y : Regs). record { done = Good; regs = y }) (holds .ensures))
+    (c .before .if1 .taken) (c .done .ensures ∙ ap accepted (holds .ensures))
 
 slice-reshare-prefix-finish-write : tie.Need-slice-reshare-prefix-finish-write
 slice-reshare-prefix-finish-write c =
@@ -72,8 +71,8 @@ finish-write-requires c κs =
 enum-told : tie.Need-enum-told
 enum-told c = search needs
 
-enum-known-done : tie.Need-enum-known-done
-enum-known-done c = search needs
+enum-known-receipt : tie.Need-enum-known-receipt
+enum-known-receipt c = search needs
 
 slice-write-held-2 : tie.Need-slice-write-held-2
 slice-write-held-2 c =
@@ -102,7 +101,7 @@ returns-2 c =
     let if1 = c .before .before .before .before .before .before .before .before .before .before .if1 in
     let finish-write = c .before .before .before .before .before .before .finish-write in
     λ x. data-good (args .regs) (args .b) (args .held .now) (args .table .now) (args .bytes .now) x (room start) (len .result) (finish-write .result) _ _
-    (len .ensures) (if1 .left) (holds .result) _ (holds .ensures) refl (c .enum-told .given .1) (finish-write .ensures)
+    (len .ensures) (if1 .left) (holds .result) _ (holds .ensures) refl (c .enum-told .given .1) (finish-write .ensures x)
 
 same-length-5 : tie.Need-same-length-5
 same-length-5 c = search needs
@@ -121,9 +120,9 @@ returns-3 c =
     let len = c .before .before .before .before .before .before .before .before .before .before .before .before .before .len in
     let if1 = c .before .before .before .before .before .before .before .before .before .before .before .before .if1 in
     let finish-write = c .before .before .before .before .before .before .before .before .finish-write in
-    let done2 = c .before .before .done2 in
+    let receipt = c .before .before .receipt in
     λ x. data-refused (args .regs) (args .b) (args .held .now) (args .table .now) (args .bytes .now) x (room start) (len .result) (finish-write .result) _
-    _ (len .ensures) (if1 .left) (holds .result) _ (holds .ensures) refl _ _ (done2 .given .1) (c .refused .ensures) (finish-write .ensures)
+    _ (len .ensures) (if1 .left) (holds .result) _ (holds .ensures) refl _ _ (receipt .given .1) (c .refused .ensures) (finish-write .ensures x)
 
 pub data-byte-spec : {M : Type 1} → statement M
 data-byte-spec =
@@ -142,7 +141,7 @@ data-byte-spec =
     slice-aggregate-finish-write
     finish-write-requires
     enum-told
-    enum-known-done
+    enum-known-receipt
     slice-write-held-2
     refused-requires
     same-length-2

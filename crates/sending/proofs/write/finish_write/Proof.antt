@@ -1,15 +1,45 @@
-use mathlib.Core.Path.{_≡_, ap, _∙_}
+use mathlib.Core.Path.{_≡_, _∙_}
+use Prim.Native.Nat.{ℕ}
+use mathlib.Core.List.{List}
 use borrow.Author.Tests.{not-true, not-false}
-use Rattle.store.specs.declared.answer.Done.the-variants.{Good}
-use Rattle.registers.specs.declared.regs.Written.{Written}
-use Rattle.registers.specs.declared.regs.Regs.{Regs}
-use Rattle.commands.proofs.Effects.{finish-none, finish-ran}
-use Rattle.commands.specs.Commands.{writeReply}
+use Rattle.store.specs.Calls.{outcome}
+use Rattle.disk.specs.Calls.{saveOf}
+use Rattle.disk.specs.declared.answer.Saved.{Saved}
 use Rattle.registers.specs.Boxes.{Finish}
-use Rattle.registers.specs.Settle.{replied, regsChanged}
+use Rattle.registers.specs.View.{writingOf}
+use Rattle.registers.specs.Settle.{accepted, replied, regsChanged}
+use Rattle.commands.specs.Commands.{writeReply}
+use Rattle.commands.specs.Lent.{Stores, writtenHere}
+use Rattle.commands.proofs.Effects.{saveRegs, finish-none, finish-ran}
 use borrow.Author.Needs.{needs}
 use Rattle.sending.proofs.write.finish_write.Statement.{statement}
 use Rattle.sending.proofs.write.finish_write.Tie as tie
+
+abbrev entry : tie.After-done → tie.Start
+entry c = c .before .before .before .before .before .before .before .before .before
+
+-- what the end of a write answers where nothing refuses it
+answered : (c : tie.After-done) → let g = entry c .args in
+    c .done .result ≡ accepted (replied (writeReply (writingOf (g .regs .write) (g .held .now))) (regsChanged Finish (g .regs)))
+unfolding writeReply
+answered c =
+    let f = c .before .before in
+    c .done .ensures ∙ simp (c .before .reply7 .ensures, f .from-c1 .ensures, f .before .finished .ensures)
+
+-- and what it answers and leaves by what `save` does
+saved-here : (k : tie.After-save) (a : Saved) (t′ b′ : List ℕ) → k .save .result ≡ a
+    → let f = k .before .before .before .before .before .before in let n = f .before .before .before .before in let s = entry f in let g = s .args in
+    outcome (k .save .result) t′ b′ ≡ saveOf (g .table .now) (g .bytes .now) (k .before .head-of .result) (n .named .result .cylinder) (g .regs .write .id) (g .held .now)
+    → (x : List ℕ) → Stores (writtenHere (g .held .now) (g .regs) (g .table .now) (g .bytes .now) x) (g .regs) (g .table .now) (g .bytes .now)
+    (saveRegs (g .regs) (g .table .now) (g .bytes .now) (g .held .now) (s .pre) (n .named .result) (n .named .ensures) a) t′ b′
+saved-here k a t′ b′ e w x =
+    let i = k .before .before .before .before in
+    let f = i .before .before in
+    let n = f .before .before .before .before in
+    finish-ran _ _ _ _ (entry f .pre) _ (n .named .ensures) x _ (k .before .head-of .ensures) _ _ _ _ (not-false (n .named .result .disk) (i .if1 .left)) e w
+
+named-requires : tie.Need-named-requires
+named-requires c κs = search needs
 
 finished-requires : tie.Need-finished-requires
 finished-requires c κs = search needs
@@ -23,23 +53,20 @@ add-reply7 c = search needs
 reply7-requires : tie.Need-reply7-requires
 reply7-requires c κs = search needs
 
--- what the end of a write answers where nothing refuses it
-answered : (c : tie.After-reply7) → let r = c .before .before .before .before .before .before .before .before .before .args .regs in
-    c .reply7 .result ≡ record { done = Good; regs = replied (writeReply (r .write .c1) (r .write .id)) (regsChanged Finish r) }
-unfolding writeReply
-answered c =
-    let r = c .before .before .before .before .before .before .before .before .before .args .regs in
-    c .reply7 .ensures
-    ∙ simp (c .before .from-c1 .ensures)
-    (ap {B = Written} (λ (x : Regs). record { done = Good; regs = replied (writeReply (r .write .c1) (r .write .id)) x }) (c .before .before .finished .ensures))
+done-requires : tie.Need-done-requires
+done-requires c κs = search needs
 
 returns : tie.Need-returns
 returns c =
-    let args = c .before .before .before .before .before .before .before .before .before .before .before .args in
-    let pre = c .before .before .before .before .before .before .before .before .before .before .before .pre in
-    let q = finish-none (args .regs) (args .table .now) (args .bytes .now) (args .regs .write .c1) (args .regs .write .id) (args .held .now) pre
-    (not-true _ (c .if1 .taken)) in
-    (answered (c .before .before) ∙ q .0, q .1)
+    let f = c .before .before in
+    let n = f .before .before .before .before in
+    let s = n .before .before .before .before .before in
+    λ x.
+    let q = finish-none _ _ _ _ (s .pre) _ (n .named .ensures) x (not-true (n .named .result .disk) (c .if1 .taken)) in
+    (answered f ∙ q .0, q .1)
+
+head-of-requires : tie.Need-head-of-requires
+head-of-requires c κs = search needs
 
 save-requires : tie.Need-save-requires
 save-requires c κs = search needs
@@ -64,13 +91,10 @@ same-length-2 c = search needs
 
 returns-2 : tie.Need-returns-2
 returns-2 c =
-    let args = c .before .before .before .before .before .before .before .before .before .before .before .before .before .before .before .before .before .before .before .before .before .before .args in
-    let pre = c .before .before .before .before .before .before .before .before .before .before .before .before .before .before .before .before .before .before .before .before .before .before .pre in
-    let if1 = c .before .before .before .before .before .before .before .before .before .before .before .if1 in
-    let save = c .before .before .before .before .before .before .before .before .save in
-    let why = c .before .before .why in
-    let q = finish-ran (args .regs) (args .table .now) (args .bytes .now) (args .regs .write .c1) (args .regs .write .id) (args .held .now) pre _ _ _ _
-    (not-false _ (if1 .left)) (why .given .1) (save .ensures) in
+    let w = c .before .before in
+    let k = w .before .before .before .before .before .before in
+    λ x.
+    let q = saved-here k _ _ _ (w .why .given .1) (k .save .ensures) x in
     (c .refused .ensures ∙ q .0, q .1)
 
 same-length-3 : tie.Need-same-length-3
@@ -81,13 +105,10 @@ same-length-4 c = search needs
 
 returns-3 : tie.Need-returns-3
 returns-3 c =
-    let args = c .before .before .before .before .before .before .before .before .before .before .before .before .before .before .before .before .before .before .before .before .args in
-    let pre = c .before .before .before .before .before .before .before .before .before .before .before .before .before .before .before .before .before .before .before .before .pre in
-    let if1 = c .before .before .before .before .before .before .before .before .before .if1 in
-    let save = c .before .before .before .before .before .before .save in
-    let q = finish-ran (args .regs) (args .table .now) (args .bytes .now) (args .regs .write .c1) (args .regs .write .id) (args .held .now) pre _ _ _ _
-    (not-false _ (if1 .left)) (c .enum-told .given .1) (save .ensures) in
-    (answered (c .before .before .before .before .before .before .before .before .before .before .before) ∙ q .0, q .1)
+    let k = c .before .before .before .before .before .before in
+    λ x.
+    let q = saved-here k _ _ _ (c .enum-told .given .1) (k .save .ensures) x in
+    (answered (k .before .before .before .before .before .before) ∙ q .0, q .1)
 
 same-length-5 : tie.Need-same-length-5
 same-length-5 c = search needs
@@ -97,23 +118,23 @@ same-length-6 c = search needs
 
 returns-4 : tie.Need-returns-4
 returns-4 c =
-    let args = c .before .before .before .before .before .before .before .before .before .before .before .before .before .before .before .before .before .before .before .before .args in
-    let pre = c .before .before .before .before .before .before .before .before .before .before .before .before .before .before .before .before .before .before .before .before .pre in
-    let if1 = c .before .before .before .before .before .before .before .before .before .if1 in
-    let save = c .before .before .before .before .before .before .save in
-    let q = finish-ran (args .regs) (args .table .now) (args .bytes .now) (args .regs .write .c1) (args .regs .write .id) (args .held .now) pre _ _ _ _
-    (not-false _ (if1 .left)) (c .enum-told2 .given .1) (save .ensures) in
-    (answered (c .before .before .before .before .before .before .before .before .before .before .before) ∙ q .0, q .1)
+    let k = c .before .before .before .before .before .before in
+    λ x.
+    let q = saved-here k _ _ _ (c .enum-told2 .given .1) (k .save .ensures) x in
+    (answered (k .before .before .before .before .before .before) ∙ q .0, q .1)
 
 pub finish-write-spec : {M : Type 1} → statement M
 finish-write-spec =
     tie.close
     (tie.spec
+    named-requires
     finished-requires
     from-c1-requires
     add-reply7
     reply7-requires
+    done-requires
     returns
+    head-of-requires
     save-requires
     enum-known-why
     refused-requires

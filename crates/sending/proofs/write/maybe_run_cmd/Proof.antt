@@ -1,9 +1,9 @@
 use mathlib.Core.Path.{_≡_, ap, _∙_}
 use lib.ListN.{length, getD}
-use Rattle.store.specs.declared.answer.Done.the-variants.{Good}
 use Rattle.registers.specs.declared.regs.Written.{Written}
 use Rattle.registers.specs.declared.regs.Regs.{Regs}
-use Rattle.kinds.specs.Table.{kindOf}
+use Rattle.registers.specs.Settle.{accepted}
+use Rattle.codes.specs.Table.{commandOf}
 use Rattle.commands.specs.Lent.{left}
 use Rattle.sending.proofs.Sends.{command-part, command-from}
 use borrow.Author.Needs.{needs}
@@ -17,11 +17,11 @@ long s = search needs
 added-requires : tie.Need-added-requires
 added-requires c κs = search needs
 
-array-read-kind-of : tie.Need-array-read-kind-of
-array-read-kind-of c = search needs
+array-read-command-of : tie.Need-array-read-command-of
+array-read-command-of c = search needs
 
-kind-of-requires : tie.Need-kind-of-requires
-kind-of-requires c κs = search needs
+command-of-requires : tie.Need-command-of-requires
+command-of-requires c κs = search needs
 
 bytes-for-requires : tie.Need-bytes-for-requires
 bytes-for-requires c κs = search needs
@@ -35,12 +35,12 @@ returns c =
     let args = start .args in
     let pre = start .pre in
     let added = c .before .before .before .before .before .before .added in
-    let kind-of = c .before .before .before .before .kind-of in
+    let command-of = c .before .before .before .before .command-of in
     let bytes-for = c .before .before .before .bytes-for in
     λ h. ap (λ (a : Written). left a h (args .table .now) (args .bytes .now) (args .transfer .now))
-    (c .done .ensures ∙ ap {B = Written} (λ (y : Regs). record { done = Good; regs = y }) (added .ensures))
-    ∙ command-part (args .regs) (args .b) h (args .table .now) (args .bytes .now) (args .transfer .now) pre (long start) (kind-of .result)
-    (bytes-for .result) (kind-of .ensures ∙ ap (λ (y : Regs). kindOf (getD (y .command) 0 0)) (added .ensures)) (bytes-for .ensures)
+    (c .done .ensures ∙ ap accepted (added .ensures))
+    ∙ command-part (args .regs) (args .b) h (args .table .now) (args .bytes .now) (args .transfer .now) pre (long start) (command-of .result)
+    (bytes-for .result) (command-of .ensures ∙ ap (λ (y : Regs). commandOf (getD (y .command) 0 0)) (added .ensures)) (bytes-for .ensures)
     (λ q. c .before .if1 .taken (ap (λ (y : Regs). y .count) (added .ensures) ∙ q))
 
 cleared-requires : tie.Need-cleared-requires
@@ -67,13 +67,13 @@ returns-2 c =
     let args = start .args in
     let pre = start .pre in
     let added = c .before .before .before .before .before .before .before .before .before .before .before .before .before .before .before .before .before .added in
-    let kind-of = c .before .before .before .before .before .before .before .before .before .before .before .before .before .before .before .kind-of in
+    let command-of = c .before .before .before .before .before .before .before .before .before .before .before .before .before .before .before .command-of in
     let bytes-for = c .before .before .before .before .before .before .before .before .before .before .before .before .before .before .bytes-for in
     let if1 = c .before .before .before .before .before .before .before .before .before .before .before .before .if1 in
     let cleared = c .before .before .before .before .before .before .before .before .before .before .before .cleared in
     let run-cmd = c .before .before .before .before .before .before .before .run-cmd in
-    λ h. command-from (args .regs) (args .b) h (args .table .now) (args .bytes .now) (args .transfer .now) pre (long start) (kind-of .result)
-    (bytes-for .result) (kind-of .ensures ∙ ap (λ (y : Regs). kindOf (getD (y .command) 0 0)) (added .ensures)) (bytes-for .ensures) (added .result)
+    λ h. command-from (args .regs) (args .b) h (args .table .now) (args .bytes .now) (args .transfer .now) pre (long start) (command-of .result)
+    (bytes-for .result) (command-of .ensures ∙ ap (λ (y : Regs). commandOf (getD (y .command) 0 0)) (added .ensures)) (bytes-for .ensures) (added .result)
     (cleared .result) (run-cmd .result) _ _ _ _ (c .kept .ensures) (added .ensures) (cleared .ensures) (if1 .left) (run-cmd .ensures)
 
 pub maybe-run-cmd-spec : {M : Type 1} → statement M
@@ -81,8 +81,8 @@ maybe-run-cmd-spec =
     tie.close
     (tie.spec
     added-requires
-    array-read-kind-of
-    kind-of-requires
+    array-read-command-of
+    command-of-requires
     bytes-for-requires
     done-requires
     returns

@@ -7,6 +7,7 @@ use Rattle.store.proofs.Walks.{TrackWalk, track-start, track-inside, tr
 use borrow.Author.Needs.{needs}
 use Rattle.store.proofs.find.get_track.Statement.{statement}
 use Rattle.store.proofs.find.get_track.Tie as tie
+use Rattle.fields.specs.Capacities.{mostData}
 
 abbrev Inv-loop : tie.InvT-loop
 Inv-loop table side cylinder left₀ index₀ at₀ place₀ left index at place = TrackWalk table side cylinder left index at place
@@ -17,7 +18,7 @@ abbrev μ-loop : tie.MeasureT-loop
 -- the track at hand is inside
 inside : (c : tie.In-loop Inv-loop μ-loop)
     → (nextAt (c .before .before .before .before .args .table .now) (c .before .loop .at) ≤ tableLength)
-    × (c .before .loop .place + trackSum (c .before .before .before .before .args .table .now) (c .before .loop .at) ≤ 1048576)
+    × (c .before .loop .place + trackSum (c .before .before .before .before .args .table .now) (c .before .loop .at) ≤ mostData)
 inside c = track-inside _ _ _ _ _ _ _ (c .before .loop .inv) (c .loop-test .taken)
 
 byte-requires : tie.Need-byte-requires Inv-loop μ-loop

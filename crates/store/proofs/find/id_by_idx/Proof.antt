@@ -13,7 +13,7 @@ use Rattle.store.proofs.find.id_by_idx.Tie as tie
 
 -- the store keeps the layout, where the check was good
 good-here : (c : tie.After-enum-told2) → wellLaid (c .before .before .before .before .before .before .args .table .now) (roomOf (c .before .before .before .before .before .before .args .bytes .now)) ≡ true
-good-here c = laid-yes _ _ _ (c .before .before .before .room-of .ensures .0) _ (c .before .before .survey .ensures) _ _ _ (c .enum-told2 .given .1)
+good-here c = laid-yes _ _ _ (c .before .before .before .room-of .ensures .0) _ (c .before .before .tally .ensures) _ _ _ (c .enum-told2 .given .1)
 
 -- the track that was found
 track-here : (c : tie.After-track) → At (c .track .given .0 .0) (c .track .given .0 .1 .0) (c .track .given .0 .1 .1 .0)
@@ -23,8 +23,8 @@ track-here c = sym (c .track .given .1) ∙ c .before .before .get-track .ensure
 room-of-requires : tie.Need-room-of-requires
 room-of-requires c κs = search needs
 
-survey-requires : tie.Need-survey-requires
-survey-requires c κs = search needs
+tally-requires : tie.Need-tally-requires
+tally-requires c κs = search needs
 
 enum-told : tie.Need-enum-told
 enum-told c = search needs
@@ -58,7 +58,7 @@ row-at-requires c κs =
     row-near _ _ _ _ _ _ _ _ _ (walkable _ _ (good-here point)) (track-here point′) (sym (c .before .at .given .1) ∙ get-sector-by-idx .ensures)
 
 returns : tie.Need-returns
-returns c = id-bad _ _ _ _ _ (laid-no _ _ _ (c .before .before .before .room-of .ensures .0) _ (c .before .before .survey .ensures) (c .enum-told .given .1))
+returns c = id-bad _ _ _ _ _ (laid-no _ _ _ (c .before .before .before .room-of .ensures .0) _ (c .before .before .tally .ensures) (c .enum-told .given .1))
 
 returns-2 : tie.Need-returns-2
 returns-2 c = id-none _ _ _ _ _ (good-here (c .before .before .before)) (sym (c .enum-told3 .given .1) ∙ c .before .before .get-track .ensures)
@@ -83,7 +83,7 @@ id-by-idx-spec =
     tie.close
     (tie.spec
     room-of-requires
-    survey-requires
+    tally-requires
     enum-told
     enum-told-2
     get-track-requires

@@ -1,2 +1,0 @@
--- The definition that a reader must believe: the table of commands.
-pub mod Table

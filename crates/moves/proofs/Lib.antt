@@ -1,2 +1,0 @@
--- Laws that more than one proof cites.
-mod Loops
