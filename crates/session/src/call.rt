@@ -1,13 +1,10 @@
 // The calls of a script. Each makes the exported calls of `host` that it stands for, and prints what they answer.
-use crate::message::start_at;
+use crate::message::at_word;
 use crate::parse::Spare;
 use crate::parse::put_at;
-use crate::print::Out;
 use crate::print::ROW;
 use crate::print::answer;
 use crate::print::field;
-use crate::print::flush;
-use crate::print::put;
 use crate::print::refusal;
 use crate::print::refused_at;
 use crate::print::rows;
@@ -42,15 +39,15 @@ enum Fetched {
 // ---- the disk in the drive
 
 // Puts a disk in, unless it was refused.
-fn insert(loaded: u64, controller: &mut Controller, out: &mut Out) {
+fn insert(loaded: u64, controller: &mut Controller) {
     if refusal(loaded) != 0 {
-        return answer(loaded, out);
+        return answer(loaded);
     }
-    answer(host::floppy_set_disk(controller, 1), out);
+    answer(host::floppy_set_disk(controller, 1));
 }
 
-pub fn fresh(controller: &mut Controller, table: &mut Table, content: &mut Content, out: &mut Out) {
-    insert(host::disk_new_formatted(table, content), controller, out);
+pub fn fresh(controller: &mut Controller, table: &mut Table, content: &mut Content) {
+    insert(host::disk_new_formatted(table, content), controller);
 }
 
 // Takes a file's bytes; the one that is asked for behind them tells a long file and a failed read from the end.
@@ -84,44 +81,39 @@ pub fn load(
     table: &mut Table,
     content: &mut Content,
     spare: &mut Spare,
-    out: &mut Out,
 ) {
-    flush(out);
     match fetch(path, spare) {
-        Fetched::Unopened => {
-            start_at(number, path, out);
-            text(
-                b" cannot be opened; expected: a file that may be read\n",
-                out,
-            );
-        }
-        Fetched::Unread => {
-            start_at(number, path, out);
-            text(b" cannot be read; expected: a file of bytes\n", out);
-        }
-        Fetched::Long => {
-            start_at(number, path, out);
-            text(
-                b" is too long; expected: an image of at most 2097152 bytes\n",
-                out,
-            );
-        }
+        Fetched::Unopened => at_word(
+            number,
+            path,
+            b" cannot be opened; expected: a file that may be read\n",
+        ),
+        Fetched::Unread => at_word(
+            number,
+            path,
+            b" cannot be read; expected: a file of bytes\n",
+        ),
+        Fetched::Long => at_word(
+            number,
+            path,
+            b" is too long; expected: an image of at most 2097152 bytes\n",
+        ),
         Fetched::Whole(count) => {
             let loaded = host::disk_new(buffer::part(spare, 0, count), table, content);
-            insert(loaded, controller, out);
+            insert(loaded, controller);
         }
     }
 }
 
 // Takes the disk out.
-pub fn remove(controller: &mut Controller, out: &mut Out) {
-    answer(host::floppy_set_disk(controller, 0), out);
+pub fn remove(controller: &mut Controller) {
+    answer(host::floppy_set_disk(controller, 0));
 }
 
 // ---- the controller
 
-pub fn motor(on: usize, controller: &mut Controller, out: &mut Out) {
-    answer(host::floppy_set_motor(controller, (on % 256) as u8), out);
+pub fn motor(on: usize, controller: &mut Controller) {
+    answer(host::floppy_set_motor(controller, (on % 256) as u8));
 }
 
 // No call was refused.
@@ -133,24 +125,25 @@ fn all(count: usize) -> Passed {
     }
 }
 
-fn statuses(times: usize, controller: &mut Controller, spare: &mut Spare) -> Passed {
-    let mut count: usize = 0;
-    while count < times {
-        let word = host::floppy_read_status(controller);
-        if refusal(word) != 0 {
-            let at = count + 1;
-            return Passed { count, at, word };
-        }
-        put_at(spare, count, (word % 256) as u8);
-        count += 1;
+// A read of the data port or of the status.
+fn read_once(dataport: bool, controller: &mut Controller, transfer: &[u8]) -> u64 {
+    if dataport {
+        return host::floppy_read_cmd(controller, transfer);
     }
-    all(count)
+    host::floppy_read_status(controller)
 }
 
-fn reads(times: usize, controller: &mut Controller, transfer: &[u8], spare: &mut Spare) -> Passed {
+// Reads a port so many times, or until it is refused.
+fn reads(
+    dataport: bool,
+    times: usize,
+    controller: &mut Controller,
+    transfer: &[u8],
+    spare: &mut Spare,
+) -> Passed {
     let mut count: usize = 0;
     while count < times {
-        let word = host::floppy_read_cmd(controller, transfer);
+        let word = read_once(dataport, controller, transfer);
         if refusal(word) != 0 {
             let at = count + 1;
             return Passed { count, at, word };
@@ -181,25 +174,25 @@ fn sends(
 }
 
 // The refusal that ended a call, with its place where the call was of several bytes.
-fn refused(passed: Passed, times: usize, out: &mut Out) {
+fn refused(passed: Passed, times: usize) {
     if times == 1 {
-        return answer(passed.word, out);
+        return answer(passed.word);
     }
-    refused_at(passed.word, passed.at, out);
+    refused_at(passed.word, passed.at);
 }
 
-pub fn status(times: usize, controller: &mut Controller, spare: &mut Spare, out: &mut Out) {
-    let passed = statuses(times, controller, spare);
+pub fn status(times: usize, controller: &mut Controller, spare: &mut Spare) {
+    let passed = reads(false, times, controller, b"", spare);
     if 0 < passed.count {
-        text(b"status", out);
+        text(b"status");
         if 1 < passed.count {
-            field(passed.count as u64, out);
-            text(b" times:", out);
+            field(passed.count as u64);
+            text(b" times:");
         }
-        rows(buffer::part(spare, 0, passed.count), out);
+        rows(buffer::part(spare, 0, passed.count));
     }
     if 0 < passed.at {
-        refused(passed, times, out);
+        refused(passed, times);
     }
 }
 
@@ -209,27 +202,26 @@ pub fn read(
     controller: &mut Controller,
     transfer: &Transfer,
     spare: &mut Spare,
-    out: &mut Out,
 ) {
-    let passed = reads(times, controller, buffer::part(transfer, 0, lent), spare);
+    let passed = reads(
+        true,
+        times,
+        controller,
+        buffer::part(transfer, 0, lent),
+        spare,
+    );
     if 0 < passed.count {
-        text(b"read", out);
+        text(b"read");
         if ROW < passed.count {
-            field(passed.count as u64, out);
-            text(b" bytes", out);
+            field(passed.count as u64);
+            text(b" bytes");
         }
-        put(b':', out);
-        rows(buffer::part(spare, 0, passed.count), out);
+        text(b":");
+        rows(buffer::part(spare, 0, passed.count));
     }
     if 0 < passed.at {
-        refused(passed, times, out);
+        refused(passed, times);
     }
-}
-
-fn least(a: usize, b: usize) -> usize
-    ensures { λ r. ⌜ (r ≤ a) × (r ≤ b) ⌝ }
-{
-    if a < b { a } else { b }
 }
 
 // Sends bytes over as much of the transfer buffer as is lent.
@@ -241,7 +233,7 @@ fn send(
     content: &mut Content,
     transfer: &mut [u8],
 ) -> Passed {
-    let room = least(lent, transfer.len());
+    let room = buffer::least(lent, transfer.len());
     sends(sent, controller, table, content, &mut transfer[..room])
 }
 
@@ -253,59 +245,52 @@ pub fn write(
     content: &mut Content,
     transfer: &mut Transfer,
     spare: &Spare,
-    out: &mut Out,
 ) {
     let sent = buffer::part(spare, 0, count);
     let passed = send(sent, lent, controller, table, content, transfer);
     if 0 < passed.at {
-        return refused(passed, count, out);
+        return refused(passed, count);
     }
-    text(b"ok\n", out);
+    text(b"ok\n");
 }
 
 // ---- what the disk holds
 
 // Whether no disk is in, which it then says.
-fn lacks_disk(controller: &Controller, out: &mut Out) -> bool {
+fn lacks_disk(controller: &Controller) -> bool {
     if host::floppy_disk(controller) % 256 != 0 {
         return false;
     }
-    text(b"no disk\n", out);
+    text(b"no disk\n");
     true
 }
 
-pub fn geometry(controller: &Controller, table: &Table, content: &Content, out: &mut Out) {
-    if lacks_disk(controller, out) {
+pub fn geometry(controller: &Controller, table: &Table, content: &Content) {
+    if lacks_disk(controller) {
         return;
     }
     let word = host::disk_geometry(table, content);
     if refusal(word) != 0 {
-        return answer(word, out);
+        return answer(word);
     }
-    text(b"geometry", out);
-    field(word % 256, out);
-    field(word / 65536 % 256, out);
-    put(b'\n', out);
+    text(b"geometry");
+    field(word % 256);
+    field(word / 65536 % 256);
+    text(b"\n");
 }
 
-fn show_sector(found: u64, content: &Content, out: &mut Out) {
+fn show_sector(found: u64, content: &Content) {
     let from = found / 4294967296;
     let count = found % 4294967296;
-    text(b"sector", out);
-    field(count, out);
-    text(b" bytes:", out);
-    rows(buffer::part(content, from as usize, count as usize), out);
+    text(b"sector");
+    field(count);
+    text(b" bytes:");
+    rows(buffer::part(content, from as usize, count as usize));
 }
 
 // The sector whose address stands in the first six bytes: side, cylinder, c, h, r and n.
-pub fn sector(
-    controller: &Controller,
-    table: &Table,
-    content: &Content,
-    address: &Spare,
-    out: &mut Out,
-) {
-    if lacks_disk(controller, out) {
+pub fn sector(controller: &Controller, table: &Table, content: &Content, address: &Spare) {
+    if lacks_disk(controller) {
         return;
     }
     let side = address[0];
@@ -316,22 +301,22 @@ pub fn sector(
     let n = address[5];
     let word = host::disk_has_sector(table, content, side, cylinder, c, h, r, n);
     if refusal(word) != 0 {
-        return answer(word, out);
+        return answer(word);
     }
     if word % 256 == 0 {
-        return text(b"no such sector\n", out);
+        return text(b"no such sector\n");
     }
     let found = host::disk_sector(table, content, side, cylinder, c, h, r, n);
-    show_sector(found, content, out);
+    show_sector(found, content);
 }
 
-pub fn disk(controller: &Controller, table: &Table, content: &Content, out: &mut Out) {
-    if lacks_disk(controller, out) {
+pub fn disk(controller: &Controller, table: &Table, content: &Content) {
+    if lacks_disk(controller) {
         return;
     }
     let word = host::disk_geometry(table, content);
     if refusal(word) != 0 {
-        return answer(word, out);
+        return answer(word);
     }
-    show::disk(table, out);
+    show::disk(table);
 }

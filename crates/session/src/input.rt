@@ -1,6 +1,4 @@
 // Takes a script's lines from standard input, of which a piece is read at a time.
-use crate::print::Out;
-use crate::print::flush;
 use libc::STDIN_FILENO;
 ghost use Prim.Native.Nat.{_<_};
 
@@ -27,11 +25,10 @@ pub fn start() -> Input {
     }
 }
 
-// Reads the next piece; what waits is written first, so that an operator sees the answers so far.
-fn read_piece(len: usize, piece: &mut Piece, out: &mut Out) -> Input
+// Reads the next piece.
+fn read_piece(len: usize, piece: &mut Piece) -> Input
     ensures { λ r. ⌜ r .at < 4096 ⌝ }
 {
-    flush(out);
     let got = libc::read(STDIN_FILENO, piece);
     if got < 0 {
         os::fail(b"session: standard input");
@@ -46,13 +43,13 @@ fn read_piece(len: usize, piece: &mut Piece, out: &mut Out) -> Input
 }
 
 // Sees that there is a byte to take, unless the input is over.
-fn more(input: Input, piece: &mut Piece, out: &mut Out) -> Input
+fn more(input: Input, piece: &mut Piece) -> Input
     ensures { λ r. ⌜ r .at < 4096 ⌝ }
 {
     if input.at < input.end && input.at < 4096 {
         return input;
     }
-    read_piece(input.len, piece, out)
+    read_piece(input.len, piece)
 }
 
 // Adds a byte to a line that has room, and answers how long it then is.
@@ -65,12 +62,12 @@ fn add(line: &mut Line, len: usize, b: u8) -> usize {
 }
 
 // Takes a line; a last one may have no newline.
-pub fn take_line(last: Input, piece: &mut Piece, line: &mut Line, out: &mut Out) -> Input {
+pub fn take_line(last: Input, piece: &mut Piece, line: &mut Line) -> Input {
     let mut input = last;
     input.len = 0;
     let mut left = u64::MAX;
     while 0 < left {
-        input = more(input, piece, out);
+        input = more(input, piece);
         if input.over {
             input.over = input.len == 0;
             return input;

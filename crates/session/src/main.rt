@@ -16,7 +16,6 @@ use parse::Name;
 use parse::Parsed;
 use parse::Spare;
 use parse::parse;
-use print::Out;
 
 // No line is longer.
 const LONGEST: usize = 4096;
@@ -33,32 +32,23 @@ fn obey(
     content: &mut Content,
     transfer: &mut Transfer,
     spare: &mut Spare,
-    out: &mut Out,
 ) -> usize {
     match name {
         Name::Unknown => {}
-        Name::Fresh => call::fresh(controller, table, content, out),
-        Name::Load => call::load(
-            number,
-            line::rest(text),
-            controller,
-            table,
-            content,
-            spare,
-            out,
-        ),
-        Name::Out => call::remove(controller, out),
-        Name::Motor => call::motor(n, controller, out),
-        Name::Status => call::status(n, controller, spare, out),
-        Name::Write => call::write(n, lent, controller, table, content, transfer, spare, out),
-        Name::Read => call::read(n, lent, controller, transfer, spare, out),
+        Name::Fresh => call::fresh(controller, table, content),
+        Name::Load => call::load(number, line::rest(text), controller, table, content, spare),
+        Name::Out => call::remove(controller),
+        Name::Motor => call::motor(n, controller),
+        Name::Status => call::status(n, controller, spare),
+        Name::Write => call::write(n, lent, controller, table, content, transfer, spare),
+        Name::Read => call::read(n, lent, controller, transfer, spare),
         Name::Transfer => {
-            print::answer(0, out);
+            print::answer(0);
             return n;
         }
-        Name::Geometry => call::geometry(controller, table, content, out),
-        Name::Sector => call::sector(controller, table, content, spare, out),
-        Name::Disk => call::disk(controller, table, content, out),
+        Name::Geometry => call::geometry(controller, table, content),
+        Name::Sector => call::sector(controller, table, content, spare),
+        Name::Disk => call::disk(controller, table, content),
     }
     lent
 }
@@ -73,16 +63,15 @@ fn run_line(
     content: &mut Content,
     transfer: &mut Transfer,
     spare: &mut Spare,
-    out: &mut Out,
 ) -> usize {
     if LONGEST < text.len() {
-        message::too_long(number, out);
+        message::too_long(number);
         return lent;
     }
     match parse(text, spare) {
         Parsed::Nothing => lent,
         Parsed::Wrong(name, fault) => {
-            message::wrong(number, text, name, fault, out);
+            message::wrong(number, text, name, fault);
             lent
         }
         Parsed::Call(name, n) => obey(
@@ -96,7 +85,6 @@ fn run_line(
             content,
             transfer,
             spare,
-            out,
         ),
     }
 }
@@ -108,7 +96,6 @@ fn run(
     content: &mut Content,
     transfer: &mut Transfer,
     spare: &mut Spare,
-    out: &mut Out,
 ) {
     let mut piece = [0; 4096];
     let mut line = [0; 4097];
@@ -116,7 +103,7 @@ fn run(
     let mut lent = transfer.len();
     let mut number: u64 = 0;
     while number < u64::MAX {
-        input = take_line(input, &mut piece, &mut line, out);
+        input = take_line(input, &mut piece, &mut line);
         if input.over {
             return;
         }
@@ -131,7 +118,6 @@ fn run(
             content,
             transfer,
             spare,
-            out,
         );
     }
 }
@@ -142,7 +128,6 @@ fn main() {
     let mut content = [0; 1048576];
     let mut transfer = [0; 65536];
     let mut spare = [0; 2097152];
-    let mut out = [0; 4098];
     host::floppy_new(&mut controller);
     run(
         &mut controller,
@@ -150,7 +135,5 @@ fn main() {
         &mut content,
         &mut transfer,
         &mut spare,
-        &mut out,
     );
-    print::flush(&mut out);
 }

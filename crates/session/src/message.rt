@@ -2,9 +2,7 @@
 use crate::line;
 use crate::parse::Fault;
 use crate::parse::Name;
-use crate::print::Out;
 use crate::print::field;
-use crate::print::put;
 use crate::print::text;
 
 // No more of a word is repeated.
@@ -15,86 +13,81 @@ fn letter(b: u8) -> u8 {
     if b < 32 || 126 < b { b'?' } else { b }
 }
 
-fn letters(word: &[u8], out: &mut Out) {
-    let mut i = 0;
-    while i < word.len() {
-        put(letter(word[i]), out);
+// As much of a word as is repeated, in quotes.
+fn quoted(word: &[u8]) {
+    let count = buffer::least(word.len(), MOST_QUOTED);
+    let mut shown = [0u8; MOST_QUOTED];
+    let mut i: usize = 0;
+    while i < count {
+        shown[i] = letter(word[i]);
         i += 1;
     }
+    text(b"'");
+    text(buffer::part(&shown, 0, count));
+    if MOST_QUOTED < word.len() {
+        text(b"..");
+    }
+    text(b"'");
 }
 
 // The number of a line, before what is wrong with it.
-fn start(number: u64, out: &mut Out) {
-    text(b"line", out);
-    field(number, out);
-    text(b": ", out);
+fn start(number: u64) {
+    text(b"line");
+    field(number);
+    text(b": ");
 }
 
-// The same, and the word that is wrong.
-pub fn start_at(number: u64, word: &[u8], out: &mut Out) {
-    start(number, out);
-    put(b'\'', out);
-    letters(buffer::part(word, 0, MOST_QUOTED), out);
-    if MOST_QUOTED < word.len() {
-        text(b"..", out);
-    }
-    put(b'\'', out);
+// A word of a line, and what is wrong with it.
+pub fn at_word(number: u64, word: &[u8], fault: &[u8]) {
+    start(number);
+    quoted(word);
+    text(fault);
 }
 
 // How a line of this call is written.
-fn form(name: Name, out: &mut Out) {
+fn form(name: Name) {
     match name {
-        Name::Fresh => text(b"fresh", out),
-        Name::Load => text(b"load FILE", out),
-        Name::Out => text(b"out", out),
-        Name::Motor => text(b"motor on|off", out),
-        Name::Status => text(b"status [N], N from 1 to 65536", out),
-        Name::Write => text(b"write HEX HEX .., each byte two hex digits", out),
-        Name::Read => text(b"read N, N from 1 to 65536", out),
-        Name::Transfer => text(b"transfer N, N from 0 to 65536", out),
-        Name::Geometry => text(b"geometry", out),
-        Name::Sector => text(b"sector SIDE CYLINDER C H R N, each from 0 to 255", out),
-        Name::Disk => text(b"disk", out),
+        Name::Fresh => text(b"fresh"),
+        Name::Load => text(b"load FILE"),
+        Name::Out => text(b"out"),
+        Name::Motor => text(b"motor on|off"),
+        Name::Status => text(b"status [N], N from 1 to 65536"),
+        Name::Write => text(b"write HEX HEX .., each byte two hex digits"),
+        Name::Read => text(b"read N, N from 1 to 65536"),
+        Name::Transfer => text(b"transfer N, N from 0 to 65536"),
+        Name::Geometry => text(b"geometry"),
+        Name::Sector => text(b"sector SIDE CYLINDER C H R N, each from 0 to 255"),
+        Name::Disk => text(b"disk"),
         Name::Unknown => text(
             b"fresh, load, out, motor, status, write, read, transfer, geometry, sector or disk",
-            out,
         ),
     }
 }
 
 // What is wrong with a line.
-fn what(number: u64, line: &[u8], fault: Fault, out: &mut Out) {
+fn what(number: u64, line: &[u8], fault: Fault) {
     match fault {
         Fault::Few => {
-            start(number, out);
-            text(b"too few words", out);
+            start(number);
+            text(b"too few words");
         }
         Fault::Many => {
-            start(number, out);
-            text(b"too many words", out);
+            start(number);
+            text(b"too many words");
         }
-        Fault::Unknown => {
-            start_at(number, line::word(line, 0), out);
-            text(b" is no call", out);
-        }
-        Fault::Unfit(k) => {
-            start_at(number, line::word(line, k), out);
-            text(b" does not fit", out);
-        }
+        Fault::Unknown => at_word(number, line::word(line, 0), b" is no call"),
+        Fault::Unfit(k) => at_word(number, line::word(line, k), b" does not fit"),
     }
 }
 
-pub fn wrong(number: u64, line: &[u8], name: Name, fault: Fault, out: &mut Out) {
-    what(number, line, fault, out);
-    text(b"; expected: ", out);
-    form(name, out);
-    put(b'\n', out);
+pub fn wrong(number: u64, line: &[u8], name: Name, fault: Fault) {
+    what(number, line, fault);
+    text(b"; expected: ");
+    form(name);
+    text(b"\n");
 }
 
-pub fn too_long(number: u64, out: &mut Out) {
-    start(number, out);
-    text(
-        b"longer than 4096 bytes, the most that a line may have\n",
-        out,
-    );
+pub fn too_long(number: u64) {
+    start(number);
+    text(b"longer than 4096 bytes, the most that a line may have\n");
 }

@@ -4,10 +4,10 @@ use Rattle.session.proofs.run.Statement.{statement}
 use Rattle.session.proofs.run.Tie as tie
 
 abbrev Inv-loop : tie.InvT-loop
-Inv-loop controller₀ table₀ content₀ transfer₀ spare₀ out₀ piece₀ line₀ input₀ lent₀ number₀ controller table content transfer spare out piece line input lent number = Unit
+Inv-loop controller₀ table₀ content₀ transfer₀ spare₀ piece₀ line₀ input₀ lent₀ number₀ controller table content transfer spare piece line input lent number = Unit
 
 abbrev μ-loop : tie.MeasureT-loop
-μ-loop controller₀ table₀ content₀ transfer₀ spare₀ out₀ piece₀ line₀ input₀ lent₀ number₀ controller table content transfer spare out piece line input lent number = 18446744073709551615 - number
+μ-loop controller₀ table₀ content₀ transfer₀ spare₀ piece₀ line₀ input₀ lent₀ number₀ controller table content transfer spare piece line input lent number = 18446744073709551615 - number
 
 start-requires : tie.Need-start-requires Inv-loop μ-loop
 start-requires c κs = search needs

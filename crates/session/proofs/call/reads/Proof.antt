@@ -4,16 +4,16 @@ use Rattle.session.proofs.call.reads.Statement.{statement}
 use Rattle.session.proofs.call.reads.Tie as tie
 
 abbrev Inv-loop : tie.InvT-loop
-Inv-loop times controller₀ transfer spare₀ count₀ controller spare count = Unit
+Inv-loop dataport times controller₀ transfer spare₀ count₀ controller spare count = Unit
 
 abbrev μ-loop : tie.MeasureT-loop
-μ-loop times controller₀ transfer spare₀ count₀ controller spare count = times - count
+μ-loop dataport times controller₀ transfer spare₀ count₀ controller spare count = times - count
 
 loop-holds : tie.Need-loop-holds Inv-loop μ-loop
 loop-holds c = search needs
 
-floppy-read-cmd-requires : tie.Need-floppy-read-cmd-requires Inv-loop μ-loop
-floppy-read-cmd-requires c κs = search needs
+read-once-requires : tie.Need-read-once-requires Inv-loop μ-loop
+read-once-requires c κs = search needs
 
 refusal-requires : tie.Need-refusal-requires Inv-loop μ-loop
 refusal-requires c κs = search needs
@@ -52,7 +52,7 @@ reads-spec =
     Inv-loop
     μ-loop
     loop-holds
-    floppy-read-cmd-requires
+    read-once-requires
     refusal-requires
     add-at
     returns

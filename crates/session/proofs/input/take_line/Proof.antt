@@ -3,10 +3,10 @@ use Rattle.session.proofs.input.take_line.Statement.{statement}
 use Rattle.session.proofs.input.take_line.Tie as tie
 
 abbrev Inv-loop : tie.InvT-loop
-Inv-loop piece₀ line₀ out₀ input₀ left₀ piece line out input left = Unit
+Inv-loop piece₀ line₀ input₀ left₀ piece line input left = Unit
 
 abbrev μ-loop : tie.MeasureT-loop
-μ-loop piece₀ line₀ out₀ input₀ left₀ piece line out input left = left
+μ-loop piece₀ line₀ input₀ left₀ piece line input left = left
 
 loop-holds : tie.Need-loop-holds Inv-loop μ-loop
 loop-holds c = search needs

@@ -5,10 +5,10 @@ use Rattle.session.proofs.print.rows.Statement.{statement}
 use Rattle.session.proofs.print.rows.Tie as tie
 
 abbrev Inv-loop : tie.InvT-loop
-Inv-loop bytes out₀ at₀ out at = Unit
+Inv-loop bytes at₀ t4 t5 at = Unit
 
 abbrev μ-loop : tie.MeasureT-loop
-μ-loop bytes out₀ at₀ out at = length bytes - at
+μ-loop bytes at₀ t4 t5 at = length bytes - at
 
 row-requires : tie.Need-row-requires Inv-loop μ-loop
 row-requires c κs = search needs
@@ -16,20 +16,38 @@ row-requires c κs = search needs
 returns : tie.Need-returns Inv-loop μ-loop
 returns c = search needs
 
-put-requires : tie.Need-put-requires Inv-loop μ-loop
-put-requires c κs = search needs
+slice-aggregate-text : tie.Need-slice-aggregate-text Inv-loop μ-loop
+slice-aggregate-text c = search needs
+
+text-requires : tie.Need-text-requires Inv-loop μ-loop
+text-requires c κs = search needs
 
 loop-holds : tie.Need-loop-holds Inv-loop μ-loop
 loop-holds c = search needs
 
-column-requires : tie.Need-column-requires Inv-loop μ-loop
-column-requires c κs = search needs
+slice-aggregate-part : tie.Need-slice-aggregate-part Inv-loop μ-loop
+slice-aggregate-part c = search needs
 
-put-requires-2 : tie.Need-put-requires-2 Inv-loop μ-loop
-put-requires-2 c κs = search needs
+blanks-requires : tie.Need-blanks-requires Inv-loop μ-loop
+blanks-requires c κs = search needs
 
 part-requires : tie.Need-part-requires Inv-loop μ-loop
 part-requires c κs = search needs
+
+text-requires-2 : tie.Need-text-requires-2 Inv-loop μ-loop
+text-requires-2 c κs = search needs
+
+decimal-requires : tie.Need-decimal-requires Inv-loop μ-loop
+decimal-requires c κs = search needs
+
+slice-aggregate-text-2 : tie.Need-slice-aggregate-text-2 Inv-loop μ-loop
+slice-aggregate-text-2 c = search needs
+
+text-requires-3 : tie.Need-text-requires-3 Inv-loop μ-loop
+text-requires-3 c κs = search needs
+
+part-requires-2 : tie.Need-part-requires-2 Inv-loop μ-loop
+part-requires-2 c κs = search needs
 
 row-requires-2 : tie.Need-row-requires-2 Inv-loop μ-loop
 row-requires-2 c κs = search needs
@@ -57,11 +75,17 @@ rows-spec =
     μ-loop
     row-requires
     returns
-    put-requires
+    slice-aggregate-text
+    text-requires
     loop-holds
-    column-requires
-    put-requires-2
+    slice-aggregate-part
+    blanks-requires
     part-requires
+    text-requires-2
+    decimal-requires
+    slice-aggregate-text-2
+    text-requires-3
+    part-requires-2
     row-requires-2
     add-at
     loop-less

@@ -3,10 +3,10 @@ use Rattle.session.proofs.show.disk.Statement.{statement}
 use Rattle.session.proofs.show.disk.Tie as tie
 
 abbrev Inv-loop : tie.InvT-loop
-Inv-loop table out₀ left₀ at₀ out left at = Unit
+Inv-loop table left₀ at₀ left at = Unit
 
 abbrev μ-loop : tie.MeasureT-loop
-μ-loop table out₀ left₀ at₀ out left at = left
+μ-loop table left₀ at₀ left at = left
 
 totals-requires : tie.Need-totals-requires Inv-loop μ-loop
 totals-requires c κs = search needs

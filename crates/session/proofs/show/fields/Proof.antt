@@ -5,10 +5,10 @@ use Rattle.session.proofs.show.fields.Statement.{statement}
 use Rattle.session.proofs.show.fields.Tie as tie
 
 abbrev Inv-loop : tie.InvT-loop
-Inv-loop table from count out₀ bytes i₀ out i = Unit
+Inv-loop table from count bytes i₀ i = Unit
 
 abbrev μ-loop : tie.MeasureT-loop
-μ-loop table from count out₀ bytes i₀ out i = length bytes - i
+μ-loop table from count bytes i₀ i = length bytes - i
 
 part-requires : tie.Need-part-requires Inv-loop μ-loop
 part-requires c κs = search needs

@@ -4,10 +4,10 @@ use Rattle.session.proofs.show.sectors.Statement.{statement}
 use Rattle.session.proofs.show.sectors.Tie as tie
 
 abbrev Inv-loop : tie.InvT-loop
-Inv-loop table start count out₀ k₀ out k = k ≤ count
+Inv-loop table start count k₀ k = k ≤ count
 
 abbrev μ-loop : tie.MeasureT-loop
-μ-loop table start count out₀ k₀ out k = count - k
+μ-loop table start count k₀ k = count - k
 
 loop-holds : tie.Need-loop-holds Inv-loop μ-loop
 loop-holds c = search needs
