@@ -289,8 +289,8 @@ fn replay(
 fn run(
     name: &mut [u8; 256],
     image: &mut [u8; 65536],
-    table: &mut [u8; 17609],
-    bytes: &mut [u8; 1048576],
+    table: &mut [u8; store::TABLE],
+    bytes: &mut [u8; fields::DATA],
     work: &mut [u8; 131072],
 ) {
     let mut left = SCRIPTS;
@@ -305,8 +305,8 @@ fn run(
 fn main() {
     let mut name = [0; 256];
     let mut image = [0; 65536];
-    let mut table = [0; 17609];
-    let mut bytes = [0; 1048576];
+    let mut table = [0; store::TABLE];
+    let mut bytes = [0; fields::DATA];
     let mut work = [0; 131072];
     run(&mut name, &mut image, &mut table, &mut bytes, &mut work);
 }

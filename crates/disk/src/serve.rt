@@ -16,7 +16,7 @@ ghost use mathlib.Core.Path.{_≡_};
 ghost use Prim.Native.Nat.{_+_, _-_, _*_, _<_, _≤_, suc};
 ghost use lib.ListN.{length};
 ghost use Rattle.buffer.specs.Over.{over};
-ghost use Rattle.store.specs.Store.{contents};
+ghost use Rattle.store.specs.Store.{contents, tableLength};
 ghost use Rattle.disk.specs.Calls.{filled, filledOf, readOf};
 ghost use Rattle.disk.specs.Serving.{extentFrom, Rows, Gathered, runOf};
 
@@ -28,7 +28,7 @@ pub struct Extent {
 
 // Searches the numbers from the ID's own to `last` among `count` rows, up to the first that has no sector.
 fn measure(table: &[u8], start: usize, count: usize, id: SectorId, last: usize) -> Extent
-    requires { ⌜ (start + 8 * count ≤ 17609) × ((count < 256) × ((id .r ≤ last) × (last < 256))) ⌝ }
+    requires { ⌜ (start + 8 * count ≤ tableLength) × ((count < 256) × ((id .r ≤ last) × (last < 256))) ⌝ }
     ensures { λ r. ⌜ r ≡ extentFrom (now (table .entry)) id start count (id .r) (suc (last - id .r)) ⌝ }
 {
     let mut number = id.r as usize;

@@ -1,5 +1,5 @@
 // The list of sessions, as it is taken from standard input.
-use replay::Block;
+use replay::Chunk;
 ghost use Prim.Native.Nat.{_≤_};
 ghost use lib.ListN.{length};
 
@@ -28,22 +28,22 @@ pub enum Next {
     Of(Session),
 }
 
-// Takes a block to its place.
-fn take_part(list: &mut [u8], width: usize, from: usize, to: usize) -> Block
+// Takes a chunk to its place.
+fn take_part(list: &mut [u8], width: usize, from: usize, to: usize) -> Chunk
     requires { ⌜ (from ≤ to) × (to ≤ length (now list)) ⌝ }
 {
-    replay::take_block(width, &mut list[from..to])
+    replay::take_chunk(width, &mut list[from..to])
 }
 
 // Takes what follows a session's name.
 fn take_rest(list: &mut List, name: usize) -> Next {
-    let Block::Whole(a) = take_part(list, 4, IMAGE_A, IMAGE_B) else {
+    let Chunk::Whole(a) = take_part(list, 4, IMAGE_A, IMAGE_B) else {
         return Next::Broken;
     };
-    let Block::Whole(b) = take_part(list, 4, IMAGE_B, CALLS) else {
+    let Chunk::Whole(b) = take_part(list, 4, IMAGE_B, CALLS) else {
         return Next::Broken;
     };
-    let Block::Whole(calls) = take_part(list, 4, CALLS, END) else {
+    let Chunk::Whole(calls) = take_part(list, 4, CALLS, END) else {
         return Next::Broken;
     };
     Next::Of(Session { name, a, b, calls })
@@ -52,9 +52,9 @@ fn take_rest(list: &mut List, name: usize) -> Next {
 // Takes the next session.
 pub fn take_session(list: &mut List) -> Next {
     match take_part(list, 1, 0, IMAGE_A) {
-        Block::End => Next::End,
-        Block::Broken => Next::Broken,
-        Block::Whole(name) => take_rest(list, name),
+        Chunk::End => Next::End,
+        Chunk::Broken => Next::Broken,
+        Chunk::Whole(name) => take_rest(list, name),
     }
 }
 

@@ -14,9 +14,9 @@ use Rattle.fields.specs.declared.read.Read.{Read}
 use Rattle.fields.specs.declared.read.Read.the-variants.{Refused, Number}
 use Rattle.fields.proofs.Tests.{never}
 use Rattle.store.specs.declared.check.Tallied.{Tallied}
-use Rattle.replay.specs.declared.Block.{Block}
-use Rattle.replay.specs.declared.Block.the-variants.{Whole}
-use Rattle.replay.specs.Answers.{checkFrom, checkWith, numberIn, heldIn, Fits, BlockFits}
+use Rattle.replay.specs.declared.Chunk.{Chunk}
+use Rattle.replay.specs.declared.Chunk.the-variants.{Whole}
+use Rattle.replay.specs.Answers.{checkFrom, checkWith, numberIn, heldIn, Fits, ChunkFits}
 
 module _ (s : List ℕ) (h i k : ℕ) (e : checkFrom h (drop i s) ≡ k) where
   -- one more byte is taken in
@@ -50,6 +50,6 @@ held-same s x y n m e q p i = heldIn ((sym q ∙ e) i) (p i)
 pub no-fits : (n room : ℕ) → Fits false n room
 no-fits n room e = never (cc)
 
--- a whole block fits, by any name of it
-pub whole-fits : (x : Block) (n room : ℕ) → BlockFits x room → x ≡ Whole n → n ≤ room
-whole-fits x n room f e = subst (λ (y : Block). BlockFits y room) e f
+-- a whole chunk fits, by any name of it
+pub whole-fits : (x : Chunk) (n room : ℕ) → ChunkFits x room → x ≡ Whole n → n ≤ room
+whole-fits x n room f e = subst (λ (y : Chunk). ChunkFits y room) e f

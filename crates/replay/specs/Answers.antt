@@ -9,8 +9,8 @@ use Rattle.fields.specs.Bytes.{numberAt}
 use Rattle.store.specs.declared.check.Tallied.{Tallied}
 use Rattle.store.specs.declared.check.Tallied.the-variants.{Bad, Good}
 use Rattle.replay.specs.declared.Amount.{Amount}
-use Rattle.replay.specs.declared.Block.{Block}
-use Rattle.replay.specs.declared.Block.the-variants as block
+use Rattle.replay.specs.declared.Chunk.{Chunk}
+use Rattle.replay.specs.declared.Chunk.the-variants as chunk
 use Rattle.replay.specs.declared.Record.{Record}
 use Rattle.replay.specs.declared.Record.the-variants.{End, Broken, Whole}
 
@@ -36,11 +36,11 @@ heldIn (Good sectors bytes end) tracks = record { tracks = tracks; sectors = sec
 abbrev pub Fits : Bool → ℕ → ℕ → Type 0
 Fits taken n room = taken ≡ true → n ≤ room
 
--- a whole block is no longer than the room for it
-abbrev pub BlockFits : Block → ℕ → Type 0
-BlockFits block.End room = Unit {0}
-BlockFits block.Broken room = Unit {0}
-BlockFits (block.Whole n) room = n ≤ room
+-- a whole chunk is no longer than the room for it
+abbrev pub ChunkFits : Chunk → ℕ → Type 0
+ChunkFits chunk.End room = Unit {0}
+ChunkFits chunk.Broken room = Unit {0}
+ChunkFits (chunk.Whole n) room = n ≤ room
 
 -- a whole record is no longer than the room for its name and the room for its image
 abbrev pub RecordFits : Record → ℕ → ℕ → Type 0

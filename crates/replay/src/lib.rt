@@ -6,7 +6,7 @@ ghost use Rattle.fields.specs.Bytes.{byteAt};
 ghost use Rattle.fields.specs.Capacities.{mostData};
 ghost use Rattle.store.specs.Spots.{tallyOf};
 ghost use Rattle.store.specs.Store.{tableLength};
-ghost use Rattle.replay.specs.Answers.{checkFrom, checkWith, heldIn, numberIn, Fits, BlockFits, RecordFits};
+ghost use Rattle.replay.specs.Answers.{checkFrom, checkWith, heldIn, numberIn, Fits, ChunkFits, RecordFits};
 use fields::SectorId;
 use libc::STDIN_FILENO;
 use libc::STDOUT_FILENO;
@@ -20,7 +20,7 @@ pub struct Amount {
 }
 
 // What stands next in a list: no length, a length and fewer bytes or more than there is room for, or so many bytes.
-pub enum Block {
+pub enum Chunk {
     End,
     Broken,
     Whole(usize),
@@ -200,31 +200,31 @@ pub fn take(buf: &mut [u8], n: usize) -> bool
     io::read_full(STDIN_FILENO, &mut buf[..n]) == n
 }
 
-// Takes a block to the front of a buffer: its length in so many bytes, the lowest first, and that many bytes.
-pub fn take_block(width: usize, buf: &mut [u8]) -> Block
-    ensures { λ r. ⌜ BlockFits r (length (now (buf .entry))) ⌝ }
+// Takes a chunk to the front of a buffer: its length in so many bytes, the lowest first, and that many bytes.
+pub fn take_chunk(width: usize, buf: &mut [u8]) -> Chunk
+    ensures { λ r. ⌜ ChunkFits r (length (now (buf .entry))) ⌝ }
 {
     let mut small = [0u8; 4];
     let four: &mut [u8] = &mut small;
     if !take(four, width) {
-        return Block::End;
+        return Chunk::End;
     }
     let count = number(four, 0);
     if !take(buf, count) {
-        return Block::Broken;
+        return Chunk::Broken;
     }
-    Block::Whole(count)
+    Chunk::Whole(count)
 }
 
 // Takes a record that begins with a name and an image, and leaves both in their buffers.
 pub fn take_record(name: &mut [u8], image: &mut [u8]) -> Record
     ensures { λ r. ⌜ RecordFits r (length (now (name .entry))) (length (now (image .entry))) ⌝ }
 {
-    match take_block(1, name) {
-        Block::End => Record::End,
-        Block::Broken => Record::Broken,
-        Block::Whole(letters) => {
-            let Block::Whole(len) = take_block(4, image) else {
+    match take_chunk(1, name) {
+        Chunk::End => Record::End,
+        Chunk::Broken => Record::Broken,
+        Chunk::Whole(letters) => {
+            let Chunk::Whole(len) = take_chunk(4, image) else {
                 return Record::Broken;
             };
             Record::Whole { letters, len }

@@ -13,13 +13,13 @@ use crate::show;
 ghost use Prim.Native.Nat.{_≤_};
 
 // What the host lends to its calls.
-pub type Controller = [u8; 1066];
+pub type Controller = [u8; layout::LENGTH];
 
-pub type Table = [u8; 17609];
+pub type Table = [u8; store::TABLE];
 
-pub type Content = [u8; 1048576];
+pub type Content = [u8; fields::DATA];
 
-pub type Transfer = [u8; 65536];
+pub type Transfer = [u8; fields::TRANSFER];
 
 // How many calls were good, and the one that was refused: its number from 1 and its word, 0 where there is none.
 struct Passed {

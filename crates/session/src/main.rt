@@ -123,10 +123,10 @@ fn run(
 }
 
 fn main() {
-    let mut controller = [0; 1066];
-    let mut table = [0; 17609];
-    let mut content = [0; 1048576];
-    let mut transfer = [0; 65536];
+    let mut controller = [0; layout::LENGTH];
+    let mut table = [0; store::TABLE];
+    let mut content = [0; fields::DATA];
+    let mut transfer = [0; fields::TRANSFER];
     let mut spare = [0; 2097152];
     host::floppy_new(&mut controller);
     run(

@@ -2,6 +2,7 @@
 use crate::print::field;
 use crate::print::text;
 ghost use Prim.Native.Nat.{_+_, _*_, _<_, _≤_};
+ghost use Rattle.store.specs.Store.{tableLength};
 
 // The numbers that stand one behind another in the table.
 fn fields(table: &[u8], from: usize, count: usize) {
@@ -37,7 +38,7 @@ fn sectors(table: &[u8], start: usize, count: usize)
 }
 
 fn track(table: &[u8], at: usize)
-    requires { ⌜ at < 17609 ⌝ }
+    requires { ⌜ at < tableLength ⌝ }
 {
     text(b"track");
     fields(table, at, 2);

@@ -8,9 +8,6 @@ use libc::STDERR_FILENO;
 // More records than any list has.
 const RECORDS: u32 = 65536;
 
-// Past the rows of any table.
-const ROWS_END: usize = 17609;
-
 fn show_geometry(table: &[u8], bytes: &[u8]) {
     match store::geometry(table, bytes) {
         store::Geometry::Refused(why) => replay::refused(why),
@@ -64,7 +61,7 @@ fn ask_tracks(table: &[u8], bytes: &[u8]) {
     let mut left = fields::byte(table, 0);
     let mut at: usize = 1;
     while 0 < left {
-        if ROWS_END <= at {
+        if store::TABLE <= at {
             return;
         }
         let cylinder = fields::byte(table, at);
@@ -154,8 +151,8 @@ fn replay(name: &mut [u8], image: &mut [u8], table: &mut [u8], bytes: &mut [u8])
 fn run(
     name: &mut [u8; 256],
     image: &mut [u8; 262144],
-    table: &mut [u8; 17609],
-    bytes: &mut [u8; 1048576],
+    table: &mut [u8; store::TABLE],
+    bytes: &mut [u8; fields::DATA],
 ) {
     show_fresh(table, bytes);
     let mut left = RECORDS;
@@ -170,7 +167,7 @@ fn run(
 fn main() {
     let mut name = [0; 256];
     let mut image = [0; 262144];
-    let mut table = [0; 17609];
-    let mut bytes = [0; 1048576];
+    let mut table = [0; store::TABLE];
+    let mut bytes = [0; fields::DATA];
     run(&mut name, &mut image, &mut table, &mut bytes);
 }

@@ -3,8 +3,8 @@ use Rattle.replay.proofs.Laws.{whole-fits}
 use Rattle.replay.proofs.take_record.Statement.{statement}
 use Rattle.replay.proofs.take_record.Tie as tie
 
-take-block-requires : tie.Need-take-block-requires
-take-block-requires c κs = search needs
+take-chunk-requires : tie.Need-take-chunk-requires
+take-chunk-requires c κs = search needs
 
 enum-told : tie.Need-enum-told
 enum-told c = search needs
@@ -15,8 +15,8 @@ enum-told-2 c = search needs
 enum-known-letters : tie.Need-enum-known-letters
 enum-known-letters c = search needs
 
-take-block-requires-2 : tie.Need-take-block-requires-2
-take-block-requires-2 c κs = search needs
+take-chunk-requires-2 : tie.Need-take-chunk-requires-2
+take-chunk-requires-2 c κs = search needs
 
 enum-known-len : tie.Need-enum-known-len
 enum-known-len c = search needs
@@ -51,19 +51,19 @@ same-length-6 c = search needs
 returns-4 : tie.Need-returns-4
 returns-4 c =
     let d = c .before .before .before .before .before .before .before .before in (
-      whole-fits _ _ _ (d .before .before .before .before .take-block .ensures) (d .letters .given .1),
-      whole-fits _ _ _ (c .before .before .before .before .before .take-block2 .ensures) (c .before .len .given .1),
+      whole-fits _ _ _ (d .before .before .before .before .take-chunk .ensures) (d .letters .given .1),
+      whole-fits _ _ _ (c .before .before .before .before .before .take-chunk2 .ensures) (c .before .len .given .1),
     )
 
 pub take-record-spec : {M : Type 1} → statement M
 take-record-spec =
     tie.close
     (tie.spec
-    take-block-requires
+    take-chunk-requires
     enum-told
     enum-told-2
     enum-known-letters
-    take-block-requires-2
+    take-chunk-requires-2
     enum-known-len
     same-length
     same-length-2

@@ -1,7 +1,7 @@
 use borrow.Author.Tests.{not-false}
 use borrow.Author.Needs.{needs}
-use Rattle.replay.proofs.take_block.Statement.{statement}
-use Rattle.replay.proofs.take_block.Tie as tie
+use Rattle.replay.proofs.take_chunk.Statement.{statement}
+use Rattle.replay.proofs.take_chunk.Tie as tie
 
 slice-aggregate-four : tie.Need-slice-aggregate-four
 slice-aggregate-four c = search needs
@@ -30,8 +30,8 @@ same-length-2 c = search needs
 returns-3 : tie.Need-returns-3
 returns-3 c = c .before .before .before .take2 .ensures (not-false _ (c .if2 .left))
 
-pub take-block-spec : {M : Type 1} → statement M
-take-block-spec =
+pub take-chunk-spec : {M : Type 1} → statement M
+take-chunk-spec =
     tie.close
     (tie.spec
     slice-aggregate-four
