@@ -71,6 +71,11 @@ module _ (d : List ℕ) where
   unfolding over
   over-drop at s h = drop-at (take at d) _ at (length-take-le at d h)
 
+  -- laid from the start: what was laid, and the rest
+  pub over-front : (s : List ℕ) → over d 0 s ≡ s ++ drop (length s) d
+  unfolding over
+  over-front s = let z : 0 + length s ≡ length s = omega arith in rw z
+
   -- the rest is kept
   pub over-past : (at : ℕ) (s : List ℕ) (k : ℕ) → at ≤ length d → at + length s ≤ k → drop k (over d at s) ≡ drop k d
   over-past at s k h l =

@@ -7,7 +7,7 @@ use mathlib.Core.Bool.{Bool, true, false, cond}
 use lib.ListN.{length, take, drop, length-append}
 use lib.Seq.{slice, take-at, drop-at}
 use Rattle.buffer.specs.Over.{over}
-use Rattle.buffer.proofs.Overs.{over-join}
+use Rattle.buffer.proofs.Overs.{over-join, over-front}
 use Rattle.fields.specs.Model.{Sector, Track, Disk}
 use Rattle.tracks.specs.Block.{rowAt, sectorOf}
 use Rattle.fields.specs.declared.id.SectorId.{SectorId}
@@ -19,7 +19,7 @@ use Rattle.disk.specs.Change.{change}
 use Rattle.store.specs.Spots.{trackHere, rowHere, trackSpot, sectorSpot}
 use Rattle.loading.specs.Laying.{trackFor}
 use Rattle.store.specs.declared.find.Spot.the-variants.{At}
-use Rattle.store.proofs.Rounds.{contents-length, over-front}
+use Rattle.store.proofs.Rounds.{contents-length}
 use Rattle.store.proofs.Founds.{sectors-count}
 use Rattle.disk.proofs.Holds.{part-whole, sizes-are}
 use Rattle.loading.proofs.Lays.{tracks-append, track-length}

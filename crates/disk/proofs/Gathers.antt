@@ -7,7 +7,7 @@ use lib.ListN.{length, take, drop, length-append, length-drop}
 use lib.Seq.{take-all, drop-drop, drop-length}
 use borrow.Rule.Slice.PartMut.{putMid}
 use Rattle.buffer.specs.Over.{over}
-use Rattle.buffer.proofs.Overs.{over-length}
+use Rattle.buffer.proofs.Overs.{over-length, over-front}
 use Rattle.fields.specs.Model.{Sector}
 use Rattle.tracks.specs.Block.{rowAt, sectorOf}
 use Rattle.fields.specs.declared.id.SectorId.{SectorId}
@@ -21,7 +21,6 @@ use Rattle.store.specs.declared.find.Spot.{Spot}
 use Rattle.store.specs.declared.find.Spot.the-variants.{Nothing, At}
 use Rattle.store.proofs.Founds.{rowAtSpot, find-row, row-in}
 use Rattle.loading.proofs.Lays.{lay-on, lay-none}
-use Rattle.store.proofs.Rounds.{over-front}
 
 run-step : (id : SectorId) (ss : List Sector) (r k : ℕ) → 0 < k
     → runFrom id ss r k ≡ joined (find (isSector (numbered id r)) ss) (runFrom id ss (r + 1) (k - 1))

@@ -6,6 +6,7 @@ use native.Mathlib.Nat.{add-zero}
 use mathlib.Core.List.{List, [], _∷_, _++_, append-assoc}
 use lib.ListN.{length, take, drop, length-take, length-drop, take-append-drop}
 use lib.Seq.{drop-cons, drop-drop}
+use Rattle.buffer.proofs.Overs.{over-front}
 use Rattle.buffer.specs.Over.{over}
 use Rattle.fields.specs.Bytes.{byteAt, numberAt}
 use Rattle.fields.specs.Refusals.{good}
@@ -17,7 +18,7 @@ use Rattle.store.specs.Spots.{endAt}
 use Rattle.store.proofs.Sums.{end-is}
 use Rattle.store.proofs.Checks.{kept, disk-told}
 use Rattle.store.proofs.Founds.{sectors-count}
-use Rattle.store.proofs.Rounds.{sizeIn, table-length, data-length, over-front, tracks-before}
+use Rattle.store.proofs.Rounds.{sizeIn, table-length, data-length, tracks-before}
 
 -- ---- how much is read
 

@@ -8,6 +8,7 @@ use lib.ListN.{length, take, drop, replicate, drop-of-length-le, length-append, 
 use lib.Seq.{take-all, drop-at, length-take-le}
 use borrow.Rule.Slice.PartMut.{putMid, midOf}
 use borrow.Author.Tests.{eq-eqb, ne-eqb, not-true, not-false}
+use Rattle.buffer.proofs.Overs.{over-front}
 use Rattle.buffer.specs.Over.{over}
 use Rattle.fields.specs.Capacities.{mostData, mostHeld}
 use Rattle.fields.specs.Refusals.{Result, refused, good}
@@ -20,7 +21,6 @@ use Rattle.store.specs.declared.find.Place.{Place}
 use Rattle.store.specs.declared.find.Place.the-variants as place
 use Rattle.store.proofs.Checks.{room-in}
 use Rattle.store.proofs.Founds.{part-within}
-use Rattle.store.proofs.Rounds.{over-front}
 use Rattle.registers.specs.declared.regs.Regs.{Regs}
 use Rattle.registers.specs.declared.regs.Receipt.{Receipt}
 use Rattle.registers.specs.declared.regs.Receipt.the-variants as receipt

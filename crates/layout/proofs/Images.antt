@@ -8,10 +8,9 @@ use lib.ListN.{length, drop}
 use lib.Dec.{leb}
 use borrow.Author.Tests.{eq-eqb, eqb-true, le-leb}
 use Rattle.buffer.specs.Over.{over}
-use Rattle.buffer.proofs.Overs.{over-over}
+use Rattle.buffer.proofs.Overs.{over-over, over-front}
 use Rattle.fields.specs.Bytes.{byteAt, numberAt}
 use Rattle.fields.proofs.Tests.{and-fst}
-use Rattle.store.proofs.Rounds.{over-front}
 use Rattle.registers.specs.declared.regs.Regs.{Regs}
 use Rattle.layout.specs.Layout.{controllerLength, commandFor, readingFor, stateFor, numbersFor, heldAt, formed}
 

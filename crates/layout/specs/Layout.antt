@@ -5,6 +5,7 @@ use mathlib.Core.List.{List, [], _∷_}
 use lib.ListN.{length, drop}
 use lib.Dec.{eqb, leb}
 use Rattle.fields.specs.Bytes.{byteAt, numberAt}
+use Rattle.fields.specs.Capacities.{mostHeld}
 use Rattle.fields.specs.Refusals.{Result, good, need}
 use Rattle.fields.specs.declared.refusal.Refusal.the-variants.{BadController}
 use Rattle.registers.specs.declared.regs.Regs.{Regs}
@@ -19,7 +20,7 @@ abbrev pub numbersLength : ℕ
 numbersLength = 42
 
 abbrev pub controllerLength : ℕ
-controllerLength = 1066
+controllerLength = numbersLength + mostHeld
 
 -- ---- Writing
 

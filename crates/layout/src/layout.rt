@@ -1,4 +1,5 @@
 // The controller as bytes that the host lends: 42 bytes of numbers, then the 1,024 held bytes. docs/HOST.md has the layout.
+use fields::HELD;
 use fields::SectorId;
 use registers::Drive;
 use registers::Pending;
@@ -12,10 +13,10 @@ ghost use Rattle.fields.specs.Bytes.{numberAt};
 ghost use Rattle.layout.specs.Layout.{controllerLength, flagByte, seekByte, partFor, commandFor, readingFor, stateFor, numbersFor};
 ghost use Rattle.layout.specs.Layout.{flagAt, seekAt, writeAt, driveAt, regsAt, heldAt, formed};
 
-pub const LENGTH: usize = 1066;
-
-// How many bytes the numbers take; the held bytes begin behind them.
+// How many bytes the numbers take; the held bytes stand behind them.
 pub const NUMBERS: usize = 42;
+
+pub const LENGTH: usize = NUMBERS + HELD;
 
 fn flag_at(b: u8) -> bool
     ensures { λ r. ⌜ r ≡ flagAt b ⌝ }

@@ -10,6 +10,7 @@ use lib.ListN.{length, set, take, drop, replicate, drop-of-length-le}
 use lib.Seq.{slice, length-slice, length-take-le, take-suc-set, take-append-seam}
 use lib.Dec.{eqb, ltb, leb}
 use borrow.Author.Tests.{ltb-true, ltb-false, leb-true}
+use Rattle.buffer.proofs.Overs.{over-front}
 use Rattle.buffer.specs.Over.{over}
 use Rattle.fields.specs.Refusals.{Result, refused, good, need, after}
 use Rattle.fields.specs.Capacities.{mostHeld}
@@ -22,7 +23,6 @@ use Rattle.store.specs.Search.{sectorAt}
 use Rattle.store.specs.Store.{roomOf, tableOf, dataOf, diskOf}
 use Rattle.store.specs.Calls.{fitting}
 use Rattle.registers.specs.declared.regs.Receipt.the-variants as receipt
-use Rattle.store.proofs.Rounds.{over-front}
 use Rattle.disk.specs.Change.{saved, setTrack}
 use Rattle.disk.proofs.Accepts.{format-accepted, save-accepted}
 use Rattle.codes.specs.declared.command.Command.{Command}

@@ -7,7 +7,7 @@ use mathlib.Core.List.{List, [], _∷_, _++_, append-assoc}
 use lib.ListN.{length, take, drop, length-append}
 use lib.Seq.{getD-drop, drop-drop, take-at, drop-at}
 use Rattle.buffer.specs.Over.{over}
-use Rattle.buffer.proofs.Overs.{over-length}
+use Rattle.buffer.proofs.Overs.{over-length, over-front}
 use Rattle.fields.specs.Bytes.{byteAt, numberAt}
 use Rattle.fields.specs.Refusals.{good}
 use Rattle.fields.specs.Model.{Sector, Track, Disk, total, trackBytes, sectorCount, byteCount}
@@ -189,11 +189,6 @@ tracks-back (x ∷ d) t b at place r q e f =
     (part-after b place (contents (x .sectors)) (dataOf d ++ q) g (trackSum t at) n))
 
 -- ---- a whole store
-
--- what stands in a slice over which s was laid from the start
-pub over-front : (l s : List ℕ) → over l 0 s ≡ s ++ drop (length s) l
-unfolding over
-over-front l s = let z : 0 + length s ≡ length s = omega arith in rw z
 
 module _ (t b : List ℕ) (d : Disk) (long : length t ≡ tableLength) (tracks : length d ≤ mostTracks) (sectors : sectorCount d ≤ mostSectors) (bytes : byteCount d ≤ roomOf b) where
   -- the table as it stands then

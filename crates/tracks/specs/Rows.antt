@@ -37,6 +37,11 @@ unfoldable pub idsAt : List ℕ → ℕ → ℕ → List SectorId
 idsAt b at zero = []
 idsAt b at (suc left) = idAt b at ∷ idsAt b (at + 4) left
 
+-- IDs as bytes, before what follows them: c, h, r, n of each
+unfoldable pub idsFor : List SectorId → List ℕ → List ℕ
+idsFor [] rest = rest
+idsFor (x ∷ xs) rest = x .c ∷ x .h ∷ x .r ∷ x .n ∷ idsFor xs rest
+
 -- so many IDs of one cylinder, head and n, numbered from r
 unfoldable pub idsFrom : ℕ → ℕ → ℕ → ℕ → ℕ → List SectorId
 idsFrom c h n r zero = []

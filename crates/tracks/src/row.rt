@@ -6,7 +6,7 @@ ghost use Prim.Native.Nat.{_+_, _≤_};
 ghost use mathlib.Core.List.{[]};
 ghost use lib.ListN.{length};
 ghost use Rattle.buffer.specs.Over.{over};
-ghost use Rattle.tracks.specs.Rows.{headFor, rowFor, idRoom, idsAt, idsFrom};
+ghost use Rattle.tracks.specs.Rows.{headFor, rowFor, idRoom, idsFor, idsFrom};
 
 // Lays a track's six bytes.
 pub fn put_head(table: &mut [u8], at: usize, head: Head)
@@ -53,15 +53,12 @@ pub const IDS: usize = 1020;
 // Lays the IDs of one cylinder, head and n that are numbered from 1 to `count`, four bytes each.
 pub fn number_ids(ids: &mut [u8], c: u8, h: u8, n: u8, count: u8)
     requires { ⌜ idRoom ≤ length (now ids) ⌝ }
-    ensures { λ _. ⌜ idsAt (now (ids .exit)) 0 count ≡ idsFrom c h n 1 count ⌝ }
+    ensures { λ _. ⌜ now (ids .exit) ≡ over (now (ids .entry)) 0 (idsFor (idsFrom c h n 1 count) []) ⌝ }
 {
     let mut left = count;
     while 0 < left {
-        let at = 4 * (left as usize - 1);
-        ids[at] = c;
-        ids[at + 1] = h;
-        ids[at + 2] = left;
-        ids[at + 3] = n;
+        let id = [c, h, left, n];
+        buffer::copy_in(ids, 4 * (left as usize - 1), &id);
         left -= 1;
     }
 }

@@ -1,4 +1,5 @@
 use mathlib.Core.Path.{_∙_}
+use Rattle.tracks.proofs.Numbering.{ids-numbered}
 use Rattle.commands.proofs.Effects.{track-asked}
 use borrow.Author.Needs.{needs}
 use Rattle.commands.proofs.command.lay_track.Statement.{statement}
@@ -43,7 +44,7 @@ returns c =
     let n = y .before .before .before .before .before .before in
     let h = n .before .before .before in
     let a = h .before .before .before .args in
-    y .set-track .ensures ∙ track-asked (a .t1) (a .cylinder) _ _ (a .table .now) (a .bytes .now) (h .head-of .ensures) (n .number-ids .ensures)
+    y .set-track .ensures ∙ track-asked (a .t1) (a .cylinder) _ _ (a .table .now) (a .bytes .now) (h .head-of .ensures) (ids-numbered _ _ _ _ _ _ (n .number-ids .ensures))
 
 pub lay-track-spec : {M : Type 1} → statement M
 lay-track-spec =

@@ -1,6 +1,7 @@
 use mathlib.Core.Path.{refl, ap, _∙_}
 use Rattle.buffer.specs.Over.{over}
 use Rattle.fields.specs.Model.{Track}
+use Rattle.tracks.proofs.Numbering.{ids-numbered}
 use Rattle.store.specs.Store.{contents}
 use Rattle.loading.specs.Laying.{trackFor}
 use native.Mathlib.Omega.{arith}
@@ -29,7 +30,7 @@ returns c =
     let y = c .before .before .before .before .before in
     let n = y .before .before .before .before .before .before in
     let a = n .before .before .before .before .before .args in
-    let e = fresh-laid (a .cylinder) _ _ refl (n .number-ids .ensures) in (
+    let e = fresh-laid (a .cylinder) _ _ refl (ids-numbered _ _ _ _ _ _ (n .number-ids .ensures)) in (
       y .lay-formatted .ensures .0 ∙ ap (λ (x : Track). over (a .table .now) (a .at) (trackFor x)) e,
       y .lay-formatted .ensures .1 ∙ ap (λ (x : Track). over (a .bytes .now) (a .place) (contents (x .sectors))) e,
     )

@@ -1,5 +1,4 @@
 use native.Mathlib.Omega.{arith}
-use lib.ListN.{length-set}
 use Rattle.tracks.proofs.Numbering.{Numbering, number-start, number-again, number-done}
 use borrow.Author.Needs.{needs}
 use Rattle.tracks.proofs.row.number_ids.Statement.{statement}
@@ -14,35 +13,20 @@ abbrev μ-loop : tie.MeasureT-loop
 loop-holds : tie.Need-loop-holds Inv-loop μ-loop
 loop-holds c = number-start _ _ _ _ _
 
-cast-at : tie.Need-cast-at Inv-loop μ-loop
-cast-at c = search needs
+cast-copy-in : tie.Need-cast-copy-in Inv-loop μ-loop
+cast-copy-in c = search needs
 
-sub-at : tie.Need-sub-at Inv-loop μ-loop
-sub-at c = search needs
+sub-copy-in : tie.Need-sub-copy-in Inv-loop μ-loop
+sub-copy-in c = search needs
 
-mul-at : tie.Need-mul-at Inv-loop μ-loop
-mul-at c = search needs
+mul-copy-in : tie.Need-mul-copy-in Inv-loop μ-loop
+mul-copy-in c = search needs
 
-slice-write-ids : tie.Need-slice-write-ids Inv-loop μ-loop
-slice-write-ids c = search needs
+slice-aggregate-copy-in : tie.Need-slice-aggregate-copy-in Inv-loop μ-loop
+slice-aggregate-copy-in c = search needs
 
-add-ids : tie.Need-add-ids Inv-loop μ-loop
-add-ids c = search needs
-
-slice-write-ids-2 : tie.Need-slice-write-ids-2 Inv-loop μ-loop
-slice-write-ids-2 c = simp length-set (omega (arith, c .before .loop .inv))
-
-add-ids-2 : tie.Need-add-ids-2 Inv-loop μ-loop
-add-ids-2 c = search needs
-
-slice-write-ids-3 : tie.Need-slice-write-ids-3 Inv-loop μ-loop
-slice-write-ids-3 c = simp length-set (omega (arith, c .before .loop .inv))
-
-add-ids-3 : tie.Need-add-ids-3 Inv-loop μ-loop
-add-ids-3 c = search needs
-
-slice-write-ids-4 : tie.Need-slice-write-ids-4 Inv-loop μ-loop
-slice-write-ids-4 c = simp length-set (omega (arith, c .before .loop .inv))
+copy-in-requires : tie.Need-copy-in-requires Inv-loop μ-loop
+copy-in-requires c κs = search needs
 
 sub-left : tie.Need-sub-left Inv-loop μ-loop
 sub-left c = search needs
@@ -51,7 +35,9 @@ loop-less : tie.Need-loop-less Inv-loop μ-loop
 loop-less c = search needs
 
 loop-again : tie.Need-loop-again Inv-loop μ-loop
-loop-again c = number-again _ _ _ _ _ _ _ (c .before .loop .inv) (search needs) (c .loop-test .taken)
+loop-again c =
+    let t = c .before .before .before .before .before in
+    number-again _ _ _ _ _ _ _ (t .before .loop .inv) _ (c .before .before .copy-in .ensures) (search needs) (t .loop-test .taken)
 
 same-length : tie.Need-same-length Inv-loop μ-loop
 same-length c = search needs
@@ -66,16 +52,11 @@ number-ids-spec =
     Inv-loop
     μ-loop
     loop-holds
-    cast-at
-    sub-at
-    mul-at
-    slice-write-ids
-    add-ids
-    slice-write-ids-2
-    add-ids-2
-    slice-write-ids-3
-    add-ids-3
-    slice-write-ids-4
+    cast-copy-in
+    sub-copy-in
+    mul-copy-in
+    slice-aggregate-copy-in
+    copy-in-requires
     sub-left
     loop-less
     loop-again
