@@ -22,5 +22,6 @@ pub use read::read_u16;
 pub use read::read_u32;
 pub use refusal::Refusal;
 
-// For the crates above only: it has a `requires`.
+// For the crates above only: they have a `requires`.
 pub use read::word;
+pub use read::word_at;

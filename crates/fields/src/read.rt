@@ -27,14 +27,21 @@ pub fn byte(s: &[u8], at: usize) -> usize
     0
 }
 
+// The number in two bytes that are there, low byte first.
+pub fn word_at(s: &[u8], at: usize) -> usize
+    requires { ⌜ at + 1 < length (now s) ⌝ }
+    ensures { λ r. ⌜ (r ≡ numberAt 2 (now (s .entry)) at) × (r < 65536) ⌝ }
+{
+    s[at] as usize + 256 * (s[at + 1] as usize)
+}
+
 // The number in two bytes, low byte first. Where the second is past the end, it is the first alone.
 pub fn word(s: &[u8], at: usize) -> usize
     requires { ⌜ at + 1 < 2 ^ 64 ⌝ }
     ensures { λ r. ⌜ (r ≡ numberAt 2 (now (s .entry)) at) × (r < 65536) ⌝ }
 {
-    let next = at + 1;
-    if next < s.len() {
-        return s[at] as usize + 256 * (s[next] as usize);
+    if at + 1 < s.len() {
+        return word_at(s, at);
     }
     byte(s, at)
 }

@@ -16,13 +16,6 @@ use Rattle.layout.specs.Layout.{controllerLength, commandFor, readingFor
 
 -- ---- bytes as registers
 
--- a number in four bytes is two words
-pub two-words : (l : List ℕ) (at : ℕ) → numberAt 2 l at + 65536 * numberAt 2 l (at + 2) ≡ numberAt 4 l at
-unfolding numberAt
-two-words l at =
-    let two : at + 1 + 1 ≡ at + 2 = omega arith in
-    rw two (omega arith)
-
 -- the numbers, written over the first bytes
 pub laid-over : (b l : List ℕ) (r : Regs) → b ≡ numbersFor r [] → over l 0 b ≡ numbersFor r (heldAt l)
 unfolding numbersFor

@@ -1,6 +1,7 @@
 // The controller as bytes that the host lends: 42 bytes of numbers, then the 1,024 held bytes. docs/HOST.md has the layout.
 use fields::HELD;
 use fields::SectorId;
+use fields::word_at;
 use registers::Drive;
 use registers::Pending;
 use registers::Regs;
@@ -57,7 +58,7 @@ fn long_at(c: &[u8], at: usize) -> u32
     requires { ⌜ at + 4 ≤ length (now c) ⌝ }
     ensures { λ r. ⌜ r ≡ numberAt 4 (now (c .entry)) at ⌝ }
 {
-    (fields::word(c, at) + 65536 * fields::word(c, at + 2)) as u32
+    (word_at(c, at) + 65536 * word_at(c, at + 2)) as u32
 }
 
 // Whether a controller has these bytes, as far as one by one they can tell.
@@ -108,7 +109,7 @@ fn write_at(c: &[u8]) -> Pending
         on: flag_at(c[31]),
         c1: c[32],
         id,
-        taken: fields::word(c, 37) as u16,
+        taken: word_at(c, 37) as u16,
     }
 }
 
@@ -142,7 +143,7 @@ pub fn decode(c: &[u8]) -> Regs
         until: long_at(c, 23),
         lost: c[27],
         motor: flag_at(c[28]),
-        index: fields::word(c, 29) as u16,
+        index: word_at(c, 29) as u16,
         write,
         drive,
     }

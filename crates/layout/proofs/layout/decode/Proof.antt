@@ -39,8 +39,8 @@ shared-slice-read-flag-at c = search needs
 flag-at-requires : tie.Need-flag-at-requires
 flag-at-requires c κs = search needs
 
-word-requires : tie.Need-word-requires
-word-requires c κs = search needs
+word-at-requires : tie.Need-word-at-requires
+word-at-requires c κs = search needs
 
 cast-t20 : tie.Need-cast-t20
 cast-t20 c = search needs
@@ -60,7 +60,7 @@ returns c =
       l .long-at .ensures,
       c .before .before .before .before .long-at2 .ensures,
       c .before .flag-at .ensures,
-      c .word .ensures .0,
+      c .word-at .ensures .0,
     )
 
 pub decode-spec : {M : Type 1} → statement M
@@ -79,6 +79,6 @@ decode-spec =
     shared-slice-read-t15
     shared-slice-read-flag-at
     flag-at-requires
-    word-requires
+    word-at-requires
     cast-t20
     returns)

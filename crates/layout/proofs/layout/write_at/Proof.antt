@@ -23,14 +23,14 @@ flag-at-requires c κs = search needs
 shared-slice-read-t10-2 : tie.Need-shared-slice-read-t10-2
 shared-slice-read-t10-2 c = search needs
 
-word-requires : tie.Need-word-requires
-word-requires c κs = search needs
+word-at-requires : tie.Need-word-at-requires
+word-at-requires c κs = search needs
 
 cast-t15 : tie.Need-cast-t15
 cast-t15 c = search needs
 
 returns : tie.Need-returns
-returns c = simp (c .before .before .flag-at .ensures, c .word .ensures .0)
+returns c = simp (c .before .before .flag-at .ensures, c .word-at .ensures .0)
 
 pub write-at-spec : {M : Type 1} → statement M
 write-at-spec =
@@ -43,6 +43,6 @@ write-at-spec =
     shared-slice-read-flag-at-2
     flag-at-requires
     shared-slice-read-t10-2
-    word-requires
+    word-at-requires
     cast-t15
     returns)
