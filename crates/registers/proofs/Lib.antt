@@ -3,3 +3,4 @@ pub mod Numbers
 pub mod Seen
 pub mod Polls
 pub mod Drives
+pub mod Kept

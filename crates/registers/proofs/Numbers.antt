@@ -6,7 +6,7 @@ use mathlib.Core.Bool.{Bool, true, false, not, _&&_, _||_}
 use mathlib.Core.List.{List}
 use lib.ListN.{length, getD}
 use lib.Dec.{eqb, ltb, leb}
-use borrow.Author.Tests.{ltb-false, leb-false}
+use borrow.Author.Tests.{ltb-false, leb-false, not-false}
 use Rattle.fields.specs.Model.{sizeOf}
 use Rattle.fields.proofs.Tests.{never}
 use Rattle.store.specs.Store.{transferRoom}
@@ -71,3 +71,10 @@ module _ (p : Pending) (e : wrongWrite p ≡ false) where
 
   pub taken-few : p .on ≡ true → p .taken < sizeOf (p .id .n)
   taken-few q = taken-of (p .on) q e
+
+  fitted-of : (f : Bool) → f ≡ true → (f && (leb (sizeOf (p .id .n)) (p .taken) || not (fitted (p .c1)))) ≡ false → fitted (p .c1) ≡ true
+  fitted-of true q h = not-false (fitted (p .c1)) (neither (leb (sizeOf (p .id .n)) (p .taken)) _ h .1)
+  fitted-of false q h = never (cc)
+
+  pub fitted-few : p .on ≡ true → fitted (p .c1) ≡ true
+  fitted-few q = fitted-of (p .on) q e

@@ -1,0 +1,244 @@
+-- A controller whose numbers are possible keeps possible ones: one case for each thing that a call can do to its registers.
+use mathlib.Core.Path.{_≡_, refl, sym, subst, _∙_}
+use Prim.Native.Nat.{ℕ, zero, suc, _+_, _-_, _≤_, _<_}
+use native.Mathlib.Omega.{arith}
+use mathlib.Core.Bool.{Bool, true, false}
+use mathlib.Core.List.{List, [], _∷_, _++_}
+use lib.ListN.{length, getD, set, replicate, length-append, length-replicate, length-set}
+use lib.Dec.{eqb, ltb}
+use borrow.Author.Tests.{ltb-true, eqb-false, le-ltb, lt-leb}
+use Rattle.fields.specs.Model.{sizeOf}
+use Rattle.fields.proofs.Sizes.{size-pos}
+use Rattle.fields.proofs.Tests.{never}
+use Rattle.store.specs.Store.{transferRoom}
+use Rattle.codes.specs.Table.{commandOf, bytesFor}
+use Rattle.codes.proofs.Rows.{bytes-range}
+use Rattle.registers.specs.declared.regs.Regs.{Regs}
+use Rattle.registers.specs.declared.regs.Pending.{Pending}
+use Rattle.registers.specs.declared.regs.Seek.{Seek}
+use Rattle.registers.specs.declared.regs.Seek.the-variants.{Idle, Running, Done}
+use Rattle.registers.specs.Boxes.{fitted, Add, Hold, Change, Clear, MoveTo, Turn, Start, Finish, Response, Stay, Reply, ReplyIfNone, Seeking, Interrupt, Serve}
+use Rattle.registers.specs.Ports.{settled, Poll, Stays, Counts, Drops, pollBy, Source, Bytes, Replies, Neither, sourceBy}
+use Rattle.registers.specs.View.{wrongWrite, impossible, impossibleIn}
+use Rattle.registers.specs.Settle.{regsWithMotor, regsWithDrive, sought, replied, regsTaken, regsChanged, regsAll, ifUnread, interruptedBy, regsResponded}
+use Rattle.registers.specs.Calls.{regsPolled, afterStatusOf, sourceOf, regsRead}
+use Rattle.registers.proofs.Numbers.{possible, possible-in, until-in, fitted-few}
+
+-- ---- possible numbers, box by box
+
+-- a command that is partly sent, an unread reply, unread data with the lost count
+pub record Partly (command : List ℕ) (count : ℕ) : Type 0 where
+  pub nine : length command ≡ 9
+  pub below : count < bytesFor (commandOf (getD command 0 0))
+
+pub record Replying (reply : List ℕ) (place fill : ℕ) : Type 0 where
+  pub seven : length reply ≡ 7
+  pub read : place ≤ fill
+  pub few : fill ≤ 7
+
+pub record Unread (from until lost room : ℕ) : Type 0 where
+  pub read : from ≤ until
+  pub inside : until ≤ room
+  pub few : lost ≤ 2
+
+-- arrays as long as their types say, numbers that are possible, and unread data inside the transfer room
+pub record Lawful (r : Regs) (room : ℕ) : Type 0 where
+  pub command : Partly (r .command) (r .count)
+  pub reply : Replying (r .reply) (r .place) (r .fill)
+  pub unread : Unread (r .from) (r .until) (r .lost) room
+  pub write : wrongWrite (r .write) ≡ false
+
+-- they are those that refusal 1 does not name
+pub lawful-so : (x : List ℕ) (r : Regs) → Lawful r (transferRoom x) → impossibleIn x r ≡ false
+unfolding impossible impossibleIn
+lawful-so x r w =
+    rw (le-ltb (r .fill) (r .place) (w .reply .read), le-ltb (r .until) (r .from) (w .unread .read), le-ltb 7 (r .fill) (w .reply .few), lt-leb (bytesFor (commandOf (getD (r .command) 0 0))) (r .count) (w .command .below), le-ltb 2 (r .lost) (w .unread .few), w .write, le-ltb (transferRoom x) (r .until) (w .unread .inside))
+
+pub so-lawful : (x : List ℕ) (r : Regs) → length (r .command) ≡ 9 → length (r .reply) ≡ 7 → impossibleIn x r ≡ false → Lawful r (transferRoom x)
+so-lawful x r nine seven e =
+    let p = possible r (possible-in x r e) in
+    record {
+      command = record { nine = nine; below = p .count-in };
+      reply = record { seven = seven; read = p .place-in; few = p .fill-in };
+      unread = record { read = p .from-in; inside = until-in x r e; few = p .lost-in };
+      write = p .write-in;
+    }
+
+-- and no smaller room is lent
+pub lawful-wider : (r : Regs) (n m : ℕ) → n ≤ m → Lawful r n → Lawful r m
+lawful-wider r n m h w = record { command = w .command; reply = w .reply; unread = record { read = w .unread .read; inside = omega (arith, h, w .unread .inside); few = w .unread .few }; write = w .write }
+
+module _ (r : Regs) (room : ℕ) (w : Lawful r room) where
+  -- ---- a status read: it stays, counts or drops
+
+  kept-poll : (q : Poll) → (q ≡ Counts → r .lost < 2) → (q ≡ Drops → r .from < r .until) → Lawful (regsPolled q (sought (settled (r .drive .seek)) r)) room
+  unfolding regsPolled
+  kept-poll Stays c d = record { command = w .command; reply = w .reply; unread = w .unread; write = w .write }
+  kept-poll Counts c d =
+      record { command = w .command; reply = w .reply; unread = record { read = w .unread .read; inside = w .unread .inside; few = omega (arith, c refl) }; write = w .write }
+  kept-poll Drops c d =
+      record { command = w .command; reply = w .reply; unread = record { read = omega (arith, d refl); inside = w .unread .inside; few = omega arith }; write = w .write }
+
+  counts-below : (on unread two : Bool) → eqb (r .lost) 2 ≡ two → pollBy on unread two ≡ Counts → r .lost < 2
+  counts-below true unread two e q = never (cc)
+  counts-below false false two e q = never (cc)
+  counts-below false true true e q = never (cc)
+  counts-below false true false e q = let d : r .lost ≡ 2 → ⊥ = eqb-false (r .lost) 2 e in omega (arith, w .unread .few, d)
+
+  drops-some : (on unread two : Bool) → ltb (r .from) (r .until) ≡ unread → pollBy on unread two ≡ Drops → r .from < r .until
+  drops-some true unread two e q = never (cc)
+  drops-some false false two e q = never (cc)
+  drops-some false true two e q = ltb-true (r .from) (r .until) e
+
+  pub kept-status : Lawful (afterStatusOf r) room
+  unfolding afterStatusOf
+  kept-status =
+      let two : Bool = eqb (r .lost) 2 in
+      let unread : Bool = ltb (r .from) (r .until) in
+      kept-poll (pollBy (r .write .on) unread two) (counts-below (r .write .on) unread two refl) (drops-some (r .write .on) unread two refl)
+
+  -- ---- a read of the data port: of data, of a reply, of neither
+
+  kept-source : (u v : Bool) → ltb (r .from) (r .until) ≡ u → ltb (r .place) (r .fill) ≡ v → Lawful (regsRead (sourceBy u v) r) room
+  unfolding regsRead
+  kept-source true v e f =
+      record { command = w .command; reply = w .reply; unread = record { read = omega (arith, ltb-true (r .from) (r .until) e); inside = w .unread .inside; few = omega arith }; write = w .write }
+  kept-source false true e f = record {
+    command = w .command;
+    reply = record { seven = w .reply .seven; read = omega (arith, ltb-true (r .place) (r .fill) f); few = w .reply .few };
+    unread = record { read = w .unread .read; inside = w .unread .inside; few = omega arith };
+    write = w .write;
+  }
+  kept-source false false e f =
+      record { command = w .command; reply = w .reply; unread = record { read = w .unread .read; inside = w .unread .inside; few = omega arith }; write = w .write }
+
+  pub kept-read : Lawful (regsRead (sourceOf r) r) room
+  kept-read = kept-source (ltb (r .from) (r .until)) (ltb (r .place) (r .fill)) refl refl
+
+  -- ---- motor and disk
+
+  pub kept-motor : (on : Bool) → Lawful (regsWithMotor on r) room
+  kept-motor on = record { command = w .command; reply = w .reply; unread = w .unread; write = w .write }
+
+  pub kept-disk : (present : Bool) → Lawful (regsWithDrive (record { cylinder = r .drive .cylinder; seek = r .drive .seek; disk = present }) r) room
+  kept-disk present = record { command = w .command; reply = w .reply; unread = w .unread; write = w .write }
+
+  -- ---- a byte of a command: part of it, or the last, with which its bytes are done with
+
+  first-set : (l : List ℕ) (n b : ℕ) → 1 ≤ n → getD (set l n b) 0 0 ≡ getD l 0 0
+  first-set [] n b h = refl
+  first-set (x ∷ l) zero b h = absurd (omega (arith, h))
+  first-set (x ∷ l) (suc n) b h = refl
+
+  -- a byte that is not the last leaves the count below the length, whether it is the first or not
+  still-below : (b n : ℕ) → r .count ≡ n → let k : ℕ = bytesFor (commandOf (getD (set (r .command) n b) 0 0)) in (n + 1 ≡ k → ⊥) → n + 1 < k
+  still-below b zero e q = let g = bytes-range (commandOf (getD (set (r .command) 0 b) 0 0)) .0 in omega (arith, g, q)
+  still-below b (suc n) e q =
+      let f : getD (set (r .command) (suc n) b) 0 0 ≡ getD (r .command) 0 0 = first-set (r .command) (suc n) b (omega arith) in
+      let g : suc n < bytesFor (commandOf (getD (r .command) 0 0)) = subst (λ (k : ℕ). k < bytesFor (commandOf (getD (r .command) 0 0))) e (w .command .below) in
+      let h : suc n < bytesFor (commandOf (getD (set (r .command) (suc n) b) 0 0)) = subst (λ (k : ℕ). suc n < bytesFor (commandOf k)) (sym f) g in
+      omega (arith, h, q)
+
+  pub kept-part : (b : ℕ) → (r .count + 1 ≡ bytesFor (commandOf (getD (set (r .command) (r .count) b) 0 0)) → ⊥) → Lawful (regsTaken (Add b) r) room
+  kept-part b q = record {
+    command = record { nine = length-set (r .command) (r .count) b ∙ w .command .nine; below = still-below b (r .count) refl q };
+    reply = w .reply;
+    unread = w .unread;
+    write = w .write;
+  }
+
+  pub kept-last : (b : ℕ) → Lawful (regsChanged Clear (regsTaken (Add b) r)) room
+  kept-last b = record {
+    command = record {
+      nine = length-set (r .command) (r .count) b ∙ w .command .nine;
+      below = omega (arith, bytes-range (commandOf (getD (set (r .command) (r .count) b) 0 0)) .0);
+    };
+    reply = w .reply;
+    unread = w .unread;
+    write = w .write;
+  }
+
+  -- ---- a byte of a write: one that is held, or the last, with which the write is done with
+
+  held-right : (f : Bool) (p : Pending) → p .taken + 1 < sizeOf (p .id .n) → fitted (p .c1) ≡ true → wrongWrite (record { on = f; c1 = p .c1; id = p .id; taken = p .taken + 1 }) ≡ false
+  held-right true p h e = rw (lt-leb (sizeOf (p .id .n)) (p .taken + 1) h, e)
+  held-right false p h e = refl
+
+  pub kept-held : (b : ℕ) → r .write .on ≡ true → r .write .taken + 1 < sizeOf (r .write .id .n) → Lawful (regsTaken (Hold b) r) room
+  kept-held b on h =
+      record { command = w .command; reply = w .reply; unread = w .unread; write = held-right (r .write .on) (r .write) h (fitted-few (r .write) (w .write) on) }
+
+  pub kept-ended : (b : ℕ) → Lawful (regsChanged Finish (regsTaken (Hold b) r)) room
+  kept-ended b = record { command = w .command; reply = w .reply; unread = w .unread; write = refl }
+
+-- ---- changes that a command brings
+
+-- a write starts on a drive that is fitted
+abbrev pub Fair : Change → Type 0
+Fair Clear = Unit {0}
+Fair (MoveTo c) = Unit {0}
+Fair Turn = Unit {0}
+Fair (Start c1 id) = fitted c1 ≡ true
+Fair Finish = Unit {0}
+
+abbrev pub AllFair : List Change → Type 0
+AllFair [] = Unit {0}
+AllFair (x ∷ xs) = Fair x × AllFair xs
+
+module _ (room : ℕ) where
+  kept-change : (x : Change) (r : Regs) → Fair x → Lawful r room → Lawful (regsChanged x r) room
+  kept-change Clear r f w = record {
+    command = record { nine = w .command .nine; below = omega (arith, bytes-range (commandOf (getD (r .command) 0 0)) .0) };
+    reply = w .reply;
+    unread = w .unread;
+    write = w .write;
+  }
+  kept-change (MoveTo c) r f w = record { command = w .command; reply = w .reply; unread = w .unread; write = w .write }
+  kept-change Turn r f w = record { command = w .command; reply = w .reply; unread = w .unread; write = w .write }
+  kept-change (Start c1 id) r f w =
+      record { command = w .command; reply = w .reply; unread = w .unread; write = rw (lt-leb (sizeOf (id .n)) 0 (size-pos (id .n)), f) }
+  kept-change Finish r f w = record { command = w .command; reply = w .reply; unread = w .unread; write = refl }
+
+  pub kept-changes : (xs : List Change) (r : Regs) → AllFair xs → Lawful r room → Lawful (regsAll xs r) room
+  unfolding regsAll
+  kept-changes [] r f w = w
+  kept-changes (x ∷ xs) r f w = kept-changes xs (regsChanged x r) (f .1) (kept-change x r (f .0) w)
+
+  -- ---- responses
+
+  -- a reply is of seven bytes at most, and data fit the transfer room
+  abbrev pub Short : Response → Type 0
+  Short Stay = Unit {0}
+  Short (Reply y) = length y ≤ 7
+  Short (ReplyIfNone y) = length y ≤ 7
+  Short Seeking = Unit {0}
+  Short (Interrupt c) = Unit {0}
+  Short (Serve bytes y) = (length bytes ≤ room) × (length y ≤ 7)
+
+  padded : (bytes : List ℕ) → length bytes ≤ 7 → Replying (bytes ++ replicate (7 - length bytes) 0) 0 (length bytes)
+  padded bytes e = record { seven = simp (length-append, length-replicate) (omega arith); read = omega arith; few = e }
+
+  kept-reply : (bytes : List ℕ) (r : Regs) → length bytes ≤ 7 → Lawful r room → Lawful (replied bytes r) room
+  kept-reply bytes r e w = record { command = w .command; reply = padded bytes e; unread = w .unread; write = w .write }
+
+  kept-sought : (s : Seek) (r : Regs) → Lawful r room → Lawful (sought s r) room
+  kept-sought s r w = record { command = w .command; reply = w .reply; unread = w .unread; write = w .write }
+
+  pub kept-response : (x : Response) (r : Regs) → Short x → Lawful r room → Lawful (regsResponded x r) room
+  unfolding regsResponded
+  kept-response Stay r q w = w
+  kept-response (Reply bytes) r q w = kept-reply bytes r q w
+  kept-response (ReplyIfNone bytes) r q w = go (ltb (r .place) (r .fill))
+    where
+      go : (v : Bool) → Lawful (ifUnread v bytes r) room
+      go true = unfold ifUnread in w
+      go false = unfold ifUnread in kept-reply bytes r q w
+  kept-response Seeking r q w = kept-reply [] (sought Running r) (omega arith) (kept-sought Running r w)
+  kept-response (Interrupt c) r q w = go (r .drive .seek)
+    where
+      go : (k : Seek) → Lawful (interruptedBy c r k) room
+      go Idle = unfold interruptedBy in kept-reply (0x80 ∷ c ∷ []) r (omega arith) w
+      go Running = unfold interruptedBy in kept-reply (0x20 ∷ c ∷ []) (sought Done r) (omega arith) (kept-sought Done r w)
+      go Done = unfold interruptedBy in kept-reply (0x80 ∷ c ∷ []) r (omega arith) w
+  kept-response (Serve bytes reply) r q w =
+      record { command = w .command; reply = padded reply (q .1); unread = record { read = omega arith; inside = q .0; few = w .unread .few }; write = w .write }
