@@ -73,10 +73,10 @@ module _ (r : Regs) (b : ℕ) (h t d x : List ℕ) where
     all-list : All ≡ take (r .count + 1) Array
     all-list = rw (add-one, take-suc-set (r .command) (r .count) b (omega arith))
 
-    all-first : byte All 0 ≡ getD Array 0 0
+    pub all-first : byte All 0 ≡ getD Array 0 0
     all-first = ap (λ (l : List ℕ). getD l 0 0) all-list ∙ getD-take (r .count + 1) Array 0 0 (omega arith)
 
-    all-length : length All ≡ r .count + 1
+    pub all-length : length All ≡ r .count + 1
     all-length = simp (length-append, length-take) (omega arith)
 
     array-long : length Array ≡ 9

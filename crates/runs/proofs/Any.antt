@@ -1,0 +1,85 @@
+-- What holds over any calls: on a controller that is one, and so from a new controller on.
+use mathlib.Core.Path.{_≡_, refl, sym, ap, _∙_}
+use mathlib.Core.Logic.{_↔_}
+use Prim.Native.Nat.{ℕ, zero, suc, _*_, _-_, _≤_}
+use native.Mathlib.Omega.{arith}
+use mathlib.Core.Bool.{Bool, false}
+use mathlib.Core.List.{List, [], _∷_, map}
+use mathlib.Core.Option.{none}
+use lib.ListN.{length, replicate, length-replicate}
+use borrow.Author.Tests.{le-ltb}
+use Rattle.fields.specs.Capacities.{mostHeld}
+use Rattle.fields.specs.declared.refusal.Refusal.the-variants.{BadController}
+use Rattle.store.specs.Store.{transferRoom}
+use Rattle.codes.specs.Table.{maskRows, rows, commandBy, commandOf}
+use Rattle.registers.specs.Boxes.{World}
+use Rattle.registers.specs.Ports.{afterStatus}
+use Rattle.registers.specs.View.{settingOf, frontOf, impossible, impossibleIn}
+use Rattle.registers.proofs.Numbers.{possible, possible-in}
+use Rattle.registers.proofs.Polls.{polls, polls-empty}
+use Rattle.floppy.specs.Calls.{newFloppy}
+use Rattle.floppy.proofs.Seen.{new-seen}
+use Rattle.runs.specs.Events.{Event, poll, Answer, denied, Run, run, Each}
+use Rattle.runs.specs.Stages.{Stage, newStage, acted}
+use Rattle.runs.specs.Hosts.{Host, called, seen, stageOf, newHost, Sound}
+use Rattle.runs.proofs.Follows.{follows}
+use Rattle.runs.proofs.Steps.{agrees, tame}
+
+map-same : {A : Type 0} (l : List A) → map (λ (a : A). a) l ≡ l
+map-same [] = refl
+map-same (x ∷ l) = ap (λ (y : List _). x ∷ y) (map-same l)
+
+-- ---- from a controller that is one
+
+module _ (es : List Event) (k : Host) (s : Sound k) where
+  -- Calls answer what the machine's run answers, refusals included, and leave what it leaves, seen.
+  pub calls-run : run acted es (stageOf k) ≡ record { answers = run called es k .answers; end = stageOf (run called es k .end) }
+  calls-run =
+      follows called acted (λ a. a) stageOf Sound (λ e j h. agrees j h e) es k s .0
+      ∙ ap (λ (l : List Answer). record { answers = l; end = stageOf (run called es k .end) }) (map-same (run called es k .answers))
+
+  -- They leave a controller that is one: possible stays possible.
+  pub calls-sound : Sound (run called es k .end)
+  calls-sound = follows called acted (λ a. a) stageOf Sound (λ e j h. agrees j h e) es k s .1
+
+-- None of them is refused with 1.
+pub calls-tame : (es : List Event) (k : Host) → Sound k → Each (λ (a : Answer). a ≡ denied BadController → ⊥) (run called es k .answers)
+unfolding run Each
+calls-tame [] k s = tt
+calls-tame (e ∷ es) k s = (tame k s e, calls-tame es (called e k .then) (agrees k s e .1))
+
+-- ---- from a new controller
+
+module _ (t b x : List ℕ) where
+  -- A new controller is one.
+  pub new-sound : Sound (newHost t b x)
+  unfolding newFloppy impossible impossibleIn commandOf commandBy rows maskRows
+  new-sound = record { nine = refl; seven = refl; held = length-replicate {A = ℕ} mostHeld 0; possible = le-ltb (transferRoom x) 0 (omega arith) }
+
+  new-stage : newStage (settingOf b x) ≡ stageOf (newHost t b x)
+  new-stage i = record { setting = settingOf b x; world = sym (new-seen t b x) i }
+
+  module _ (es : List Event) where
+    -- Over any calls from a new controller, what they answer and leave is what the machine answers and leaves from a new world.
+    pub new-run : run acted es (newStage (settingOf b x)) ≡ record { answers = run called es (newHost t b x) .answers; end = stageOf (run called es (newHost t b x) .end) }
+    new-run = ap (run acted es) new-stage ∙ calls-run es (newHost t b x) new-sound
+
+    -- Refusal 1 never comes.
+    pub new-tame : Each (λ (a : Answer). a ≡ denied BadController → ⊥) (run called es (newHost t b x) .answers)
+    new-tame = calls-tame es (newHost t b x) new-sound
+
+-- ---- lost bytes
+
+polls-run : (n : ℕ) (g : Stage) → run acted (replicate n poll) g .end .world ≡ polls n (g .world)
+unfolding run acted polls
+polls-run zero g = refl
+polls-run (suc n) g = polls-run n (acted poll g .then)
+
+-- With unread data, no write in progress and lost count L, n status reads leave no data exactly where 3k - L is at most n.
+pub polls-calls : (n : ℕ) (k : Host) → Sound k → seen k .inside .write ≡ none → 1 ≤ length (seen k .front .unread)
+    → (length (seen (run called (replicate n poll) k .end) .front .unread) ≡ 0) ↔ (3 * length (seen k .front .unread) - seen k .front .lost ≤ n)
+polls-calls n k s idle some =
+    let e : polls n (seen k) ≡ seen (run called (replicate n poll) k .end) = sym (polls-run n (stageOf k)) ∙ ap (λ (r : Run Answer Stage). r .end .world) (calls-run (replicate n poll) k s) in
+    let q : seen k .front .lost ≤ 2 = unfold frontOf in possible (k .floppy .regs) (possible-in (k .transfer) (k .floppy .regs) (s .possible)) .lost-in in
+    let both = polls-empty n (seen k) idle q some in
+    (λ z. both .0 (ap (λ (w : World). length (w .front .unread)) e ∙ z), λ z. sym (ap (λ (w : World). length (w .front .unread)) e) ∙ both .1 z)

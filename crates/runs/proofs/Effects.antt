@@ -1,0 +1,213 @@
+-- What is true of the effect of every command and of every write that ends: its changes and its response keep possible numbers possible, what it
+-- lays fits the rooms that are lent, and where it refuses, it is not refusal 1.
+use mathlib.Core.Path.{_≡_, refl, sym, ap, subst, _∙_}
+use Prim.Native.Nat.{ℕ, _≤_, min}
+use native.Mathlib.Omega.{arith}
+use mathlib.Core.Bool.{Bool, true, false}
+use mathlib.Core.List.{List, [], _∷_}
+use mathlib.Core.Option.{Option, none, some}
+use lib.ListN.{length}
+use lib.Dec.{leb}
+use borrow.Author.Tests.{leb-true}
+use Rattle.buffer.specs.Over.{over}
+use Rattle.buffer.proofs.Overs.{over-length}
+use Rattle.fields.specs.Capacities.{mostTracks, mostSectors, mostData, mostTransfer}
+use Rattle.fields.specs.Refusals.{Result, refused, good, need, after}
+use Rattle.fields.specs.Model.{Sector, Disk, sectorCount, byteCount}
+use Rattle.fields.specs.declared.id.SectorId.{SectorId}
+use Rattle.fields.specs.declared.refusal.Refusal.{Refusal}
+use Rattle.fields.specs.declared.refusal.Refusal.the-variants.{BadController, BadStore, TooManyTracks, TooManySectors, NoRoom, NoTransferRoom}
+use Rattle.fields.proofs.Tests.{never}
+use Rattle.store.specs.Find.{Found, nothing, found}
+use Rattle.store.specs.Search.{sectorAt, sectorByIndex, readAt}
+use Rattle.store.specs.Store.{roomOf, transferRoom, contents, dataOf, diskOf}
+use Rattle.store.specs.Calls.{within, fitting}
+use Rattle.store.proofs.Checks.{room-in, transfer-in, disk-bad, disk-good}
+use Rattle.store.specs.Store as store
+use Rattle.store.proofs.Rounds.{data-length}
+use Rattle.disk.specs.Change.{saved, setTrack}
+use Rattle.codes.specs.declared.command.Command.{Command}
+use Rattle.codes.specs.declared.command.Command.the-variants.{Specify, SenseDrive, Recalibrate, SenseInterrupt, SeekTo, Version, ReadData, ReadDeleted, WriteData, ReadId, FormatTrack, Unserved, Invalid}
+use Rattle.registers.specs.Boxes.{Setting, Slot, Empty, Holds, Bay, Drives, Writing, Named, fitted, namedIf, named, seven}
+use Rattle.registers.specs.Boxes.{Change, Finish, Response, Stay, Reply, ReplyIfNone, Seeking, Interrupt, Serve, Effect}
+use Rattle.registers.specs.View.{settingOf, slotIf}
+use Rattle.registers.proofs.Kept.{AllFair, Short}
+use Rattle.codes.specs.Second.{u, headOf}
+use Rattle.commands.specs.Commands.{byte, idOf, whenReady, does, puts, missing, senseIf, senseDrive, ready, seekIf, readReply, servedAs, readData, startAt, writeData, writeReply, saveAt, written, idGiven, readId, formatOf, formatTrack, obeyed}
+use Rattle.commands.specs.Lent.{dataWith, transferWith}
+
+-- ---- refusals
+
+-- a refusal other than 1
+abbrev pub Tame : Refusal → Type 0
+Tame why = why ≡ BadController → ⊥
+
+-- what is in a drive: a store that is refused is refused for itself
+abbrev pub Clean : Slot → Type 0
+Clean Empty = Unit {0}
+Clean (Holds (refused why)) = Tame why
+Clean (Holds (good d)) = Unit {0}
+
+pub store-clean : (f : Bool) (t b : List ℕ) → Clean (slotIf f (diskOf t b))
+store-clean false t b = tt
+store-clean true t b = go (store.wellLaid t (roomOf b)) refl
+  where
+    go : (v : Bool) → store.wellLaid t (roomOf b) ≡ v → Clean (Holds (diskOf t b))
+    go true e = subst (λ (y : Result Disk). Clean (Holds y)) (sym (disk-good t b e)) tt
+    go false e = subst (λ (y : Result Disk). Clean (Holds y)) (sym (disk-bad t b e)) (λ q. never (cc))
+
+-- ---- effects
+
+module _ (s : Setting) where
+  -- a disk that is put fits the room
+  abbrev pub Fits : Option Disk → Type 0
+  Fits none = Unit {0}
+  Fits (some y) = byteCount y ≤ s .room
+
+  abbrev pub Proper : Result Effect → Type 0
+  Proper (refused why) = Tame why
+  Proper (good e) = AllFair (e .changes) × (Short (s .transfer) (e .response) × Fits (e .put))
+
+  -- a command that looks at a drive finds none, a store that is refused for itself, or a disk
+  looks : (slot : Slot) (e : Result Effect) (f : Disk → Result Effect) → Clean slot → Proper e → ((y : Disk) → slot ≡ Holds (good y) → Proper (f y)) → Proper (whenReady slot e f)
+  looks Empty e f c p q = p
+  looks (Holds (refused why)) e f c p q = c
+  looks (Holds (good y)) e f c p q = q y refl
+
+  named-clean : (c1 : ℕ) (d : Drives) → Clean (d .first .slot) → Clean (named c1 d .slot)
+  unfolding named
+  named-clean c1 d c = go (fitted c1)
+    where
+      go : (v : Bool) → Clean (namedIf v (d .first) .slot)
+      go true = c
+      go false = tt
+
+  -- a drive in which there is a disk is fitted
+  named-fitted : (c1 : ℕ) (d : Drives) (y : Disk) → named c1 d .slot ≡ Holds (good y) → fitted c1 ≡ true
+  unfolding named
+  named-fitted c1 d y e = go (fitted c1) e
+    where
+      go : (v : Bool) → namedIf v (d .first) .slot ≡ Holds (good y) → v ≡ true
+      go true q = refl
+      go false q = never (cc)
+
+  seven-short : (a b c : ℕ) (id : SectorId) → length (seven a b c id) ≤ 7
+  seven-short a b c id = omega arith
+
+  seek-proper : (f : Bool) (c : ℕ) → Proper (seekIf f c)
+  unfolding seekIf
+  seek-proper true c = ((tt, tt), (tt, tt))
+  seek-proper false c = (tt, (tt, tt))
+
+  sense-short : (c1 c : ℕ) (f : Bool) → length (senseIf c1 c f) ≤ 7
+  unfolding senseIf
+  sense-short c1 c true = omega arith
+  sense-short c1 c false = omega arith
+
+  read-proper : (deleted : Bool) (l : List ℕ) (d : Named) → Clean (d .slot) → Proper (readData s deleted l d)
+  unfolding readData servedAs
+  read-proper deleted l d c =
+      looks (d .slot) _ _ c (tt, (omega arith, tt)) (λ y q. served (readAt y (headOf (byte l 1)) (d .cylinder) (idOf l) (byte l 6)))
+    where
+      fits : (v : Bool) (bytes reply : List ℕ) → leb (length bytes) (s .transfer) ≡ v → length reply ≤ 7 → Proper (need v NoTransferRoom (does [] (Serve bytes reply)))
+      fits true bytes reply e g = (tt, ((leb-true (length bytes) (s .transfer) e, g), tt))
+      fits false bytes reply e g = λ q. never (cc)
+
+      served : (ss : List Sector) → Proper (servedAs s deleted l ss)
+      served [] = (tt, (unfold missing in omega arith, tt))
+      served (z ∷ ss) = fits (leb (length (contents (z ∷ ss))) (s .transfer)) (contents (z ∷ ss)) _ refl (unfold readReply in omega arith)
+
+  write-proper : (c1 : ℕ) (id : SectorId) (d : Drives) → Clean (d .first .slot) → Proper (writeData c1 id (named c1 d))
+  unfolding writeData startAt
+  write-proper c1 id d c =
+      looks (named c1 d .slot) _ _ (named-clean c1 d c) (tt, (omega arith, tt))
+      (λ y q. by (named-fitted c1 d y q) (sectorAt y (headOf c1) (named c1 d .cylinder) id))
+    where
+      by : fitted c1 ≡ true → (z : Found Sector) → Proper (startAt c1 id z)
+      by f nothing = (tt, (unfold missing in omega arith, tt))
+      by f (found k z) = ((f, tt), (tt, tt))
+
+  read-id-proper : (c1 index : ℕ) (d : Named) → Clean (d .slot) → Proper (readId c1 index d)
+  unfolding readId idGiven
+  read-id-proper c1 index d c = looks (d .slot) _ _ c (tt, (omega arith, tt)) (λ y q. by (sectorByIndex y (headOf c1) (d .cylinder) index))
+    where
+      by : (z : Found Sector) → Proper (idGiven c1 z)
+      by nothing = ((tt, tt), (unfold missing in omega arith, tt))
+      by (found k z) = ((tt, tt), (omega arith, tt))
+
+  format-proper : (l : List ℕ) (d : Named) → Clean (d .slot) → Proper (formatTrack s l d)
+  unfolding formatTrack within
+  format-proper l d c =
+      looks (d .slot) _ _ c (tt, (omega arith, tt))
+      (λ y q. fits (setTrack (headOf (byte l 1)) (d .cylinder) (formatOf l (d .cylinder)) y))
+    where
+      all : (p q v : Bool) (y : Disk) → leb (byteCount y) (s .room) ≡ v
+          → Proper (after (need p TooManyTracks (need q TooManySectors (need v NoRoom (good y)))) (λ z. puts [] z (seven (u (byte l 1)) 0 0 (record { c = 0; h = 0; r = 0; n = byte l 2 }))))
+      all false q v y e = λ z. never (cc)
+      all true false v y e = λ z. never (cc)
+      all true true false y e = λ z. never (cc)
+      all true true true y e = (tt, (omega arith, leb-true (byteCount y) (s .room) e))
+
+      fits : (y : Disk) → Proper (after (fitting (s .room) y) (λ z. puts [] z (seven (u (byte l 1)) 0 0 (record { c = 0; h = 0; r = 0; n = byte l 2 }))))
+      fits y = all (leb (length y) mostTracks) (leb (sectorCount y) mostSectors) (leb (byteCount y) (s .room)) y refl
+
+  pub obeyed-proper : (k : Command) (l : List ℕ) (d : Drives) (index : ℕ) → Clean (d .first .slot) → Proper (obeyed s k l d index)
+  unfolding obeyed
+  obeyed-proper Specify l d i c = (tt, (tt, tt))
+  obeyed-proper SenseDrive l d i c = (tt, (sense-short (byte l 1) (named (byte l 1) d .cylinder) (ready (named (byte l 1) d .slot)), tt))
+  obeyed-proper Recalibrate l d i c = seek-proper (named (byte l 1) d .fitted) 0
+  obeyed-proper SenseInterrupt l d i c = (tt, (tt, tt))
+  obeyed-proper SeekTo l d i c = seek-proper (named (byte l 1) d .fitted) (byte l 2)
+  obeyed-proper Version l d i c = (tt, (omega arith, tt))
+  obeyed-proper ReadData l d i c = read-proper false l (named (byte l 1) d) (named-clean (byte l 1) d c)
+  obeyed-proper ReadDeleted l d i c = read-proper true l (named (byte l 1) d) (named-clean (byte l 1) d c)
+  obeyed-proper WriteData l d i c = write-proper (byte l 1) (idOf l) d c
+  obeyed-proper ReadId l d i c = read-id-proper (byte l 1) i (named (byte l 1) d) (named-clean (byte l 1) d c)
+  obeyed-proper FormatTrack l d i c = format-proper l (named (byte l 1) d) (named-clean (byte l 1) d c)
+  obeyed-proper Unserved l d i c = (tt, (tt, tt))
+  obeyed-proper Invalid l d i c = (tt, (tt, tt))
+
+  -- a write that ends is done with, and does no more inside
+  abbrev pub Ends : Result Effect → Type 0
+  Ends (refused why) = Tame why
+  Ends (good e) = (e .changes ≡ Finish ∷ []) × (Short (s .transfer) (e .response) × Fits (e .put))
+
+  pub written-ends : (w : Writing) (d : Drives) → Clean (d .first .slot) → Ends (written s w (named (w .c1) d))
+  unfolding written saveAt writeReply
+  written-ends w d c = go (named (w .c1) d .slot) (named-clean (w .c1) d c)
+    where
+      fits : (v : Bool) (new : Disk) → leb (byteCount new) (s .room) ≡ v → Ends (need v NoRoom (puts (Finish ∷ []) new (writeReply w)))
+      fits true new e = (refl, (omega arith, leb-true (byteCount new) (s .room) e))
+      fits false new e = λ q. never (cc)
+
+      by : (new : Disk) (z : Found Sector) → Ends (saveAt s w new z)
+      by new nothing = (refl, (omega arith, tt))
+      by new (found k z) = fits (leb (byteCount new) (s .room)) new refl
+
+      go : (slot : Slot) → Clean slot → Ends (whenReady slot (does (Finish ∷ []) (Reply (writeReply w)))
+          (λ y. saveAt s w (saved (headOf (w .c1)) (named (w .c1) d .cylinder) (w .id) (w .held) y) (sectorAt y (headOf (w .c1)) (named (w .c1) d .cylinder) (w .id))))
+      go Empty q = (refl, (omega arith, tt))
+      go (Holds (refused why)) q = q
+      go (Holds (good y)) q = by _ (sectorAt y (headOf (w .c1)) (named (w .c1) d .cylinder) (w .id))
+
+-- ---- the lent buffers keep their rooms
+
+served-kept : (x bytes : List ℕ) → length bytes ≤ transferRoom x → transferRoom (over x 0 bytes) ≡ transferRoom x
+unfolding transferRoom
+served-kept x bytes h = ap (λ (n : ℕ). min n mostTransfer) (over-length x 0 bytes (omega (arith, transfer-in x, h)))
+
+pub transfer-kept : (x : List ℕ) (y : Response) → Short (transferRoom x) y → transferRoom (transferWith y x) ≡ transferRoom x
+transfer-kept x Stay q = refl
+transfer-kept x (Reply z) q = refl
+transfer-kept x (ReplyIfNone z) q = refl
+transfer-kept x Seeking q = refl
+transfer-kept x (Interrupt c) q = refl
+transfer-kept x (Serve bytes z) q = served-kept x bytes (q .0)
+
+laid-kept : (d : List ℕ) (z : Disk) → byteCount z ≤ roomOf d → roomOf (over d 0 (dataOf z)) ≡ roomOf d
+unfolding roomOf
+laid-kept d z h = ap (λ (n : ℕ). min n mostData) (over-length d 0 (dataOf z) (omega (arith, room-in d, h, data-length z)))
+
+pub room-kept : (d x : List ℕ) (y : Option Disk) → Fits (settingOf d x) y → roomOf (dataWith y d) ≡ roomOf d
+room-kept d x none q = refl
+room-kept d x (some z) q = laid-kept d z q

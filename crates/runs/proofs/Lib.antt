@@ -1,0 +1,5 @@
+-- Laws that more than one proof cites, and the theorems about sequences of calls.
+pub mod Effects
+pub mod Follows
+pub mod Steps
+pub mod Any

@@ -1,0 +1,57 @@
+-- Sequences of calls on the machine.
+use Prim.Native.Nat.{ℕ, _+_, min}
+use mathlib.Core.Bool.{Bool}
+use mathlib.Core.List.{List}
+use lib.ListN.{length}
+use Rattle.fields.specs.Capacities.{mostTransfer}
+use Rattle.fields.specs.Refusals.{Result, refused, good}
+use Rattle.store.specs.Store.{roomOf, diskOf}
+use Rattle.registers.specs.Boxes.{Setting, World, newWorld}
+use Rattle.registers.specs.Ports.{status, afterStatus, portByte, afterRead, setMotor, changeDisk}
+use Rattle.registers.specs.View.{slotIf}
+use Rattle.commands.specs.Commands.{ready}
+use Rattle.sending.specs.Machine.{writePort}
+use Rattle.runs.specs.Events.{Question, motorOn?, whichTrack?, diskIn?, Event, poll, read, send, ask, switch, swap, widen}
+use Rattle.runs.specs.Events.{Answer, showed, gave, took, said, stood, denied, Next}
+
+-- the rooms that are lent, and the boxes
+pub record Stage : Type 0 where
+  pub setting : Setting
+  pub world : World
+
+-- a new controller
+abbrev pub newStage : Setting → Stage
+newStage s = record { setting = s; world = newWorld }
+
+-- the stage with other boxes
+abbrev pub withWorld : World → Stage → Stage
+withWorld w g = record { setting = g .setting; world = w }
+
+-- a byte sent was taken, or refused, which leaves all as it was
+abbrev pub sentOn : Stage → Result World → Next Answer Stage
+sentOn g (refused why) = record { answer = denied why; then = g }
+sentOn g (good w) = record { answer = took; then = withWorld w g }
+
+-- what the boxes tell
+unfoldable pub answerTo : Question → World → Answer
+answerTo motorOn? w = said (w .inside .motor)
+answerTo whichTrack? w = stood (w .inside .drives .first .cylinder)
+answerTo diskIn? w = said (ready (w .inside .drives .first .slot))
+
+-- the rooms with those of another data buffer, and of a longer transfer buffer
+abbrev pub roomed : List ℕ → Setting → Setting
+roomed b s = record { room = roomOf b; transfer = s .transfer }
+
+abbrev pub widened : List ℕ → Setting → Setting
+widened y s = record { room = s .room; transfer = min (s .transfer + length y) mostTransfer }
+
+-- one call, on the machine
+unfoldable pub acted : Event → Stage → Next Answer Stage
+acted poll g = record { answer = showed (status (g .world)); then = withWorld (afterStatus (g .world)) g }
+acted read g = record { answer = gave (portByte (g .world)); then = withWorld (afterRead (g .world)) g }
+acted (send b) g = sentOn g (writePort (g .setting) (g .world) b)
+acted (ask q) g = record { answer = answerTo q (g .world); then = g }
+acted (switch on) g = record { answer = took; then = withWorld (setMotor on (g .world)) g }
+acted (swap present t b) g =
+    record { answer = took; then = record { setting = roomed b (g .setting); world = changeDisk (slotIf present (diskOf t b)) (g .world) } }
+acted (widen y) g = record { answer = took; then = record { setting = widened y (g .setting); world = g .world } }
