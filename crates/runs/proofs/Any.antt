@@ -4,7 +4,7 @@ use mathlib.Core.Logic.{_↔_}
 use Prim.Native.Nat.{ℕ, zero, suc, _*_, _-_, _≤_}
 use native.Mathlib.Omega.{arith}
 use mathlib.Core.Bool.{Bool, false}
-use mathlib.Core.List.{List, [], _∷_, map}
+use mathlib.Core.List.{List, [], _∷_, map-id}
 use mathlib.Core.Option.{none}
 use lib.ListN.{length, replicate, length-replicate}
 use borrow.Author.Tests.{le-ltb}
@@ -25,10 +25,6 @@ use Rattle.runs.specs.Hosts.{Host, called, seen, stageOf, newHost, Sound
 use Rattle.runs.proofs.Follows.{follows}
 use Rattle.runs.proofs.Steps.{agrees, tame}
 
-map-same : {A : Type 0} (l : List A) → map (λ (a : A). a) l ≡ l
-map-same [] = refl
-map-same (x ∷ l) = ap (λ (y : List _). x ∷ y) (map-same l)
-
 -- ---- from a controller that is one
 
 module _ (es : List Event) (k : Host) (s : Sound k) where
@@ -36,7 +32,7 @@ module _ (es : List Event) (k : Host) (s : Sound k) where
   pub calls-run : run acted es (stageOf k) ≡ record { answers = run called es k .answers; end = stageOf (run called es k .end) }
   calls-run =
       follows called acted (λ a. a) stageOf Sound (λ e j h. agrees j h e) es k s .0
-      ∙ ap (λ (l : List Answer). record { answers = l; end = stageOf (run called es k .end) }) (map-same (run called es k .answers))
+      ∙ ap (λ (l : List Answer). record { answers = l; end = stageOf (run called es k .end) }) (map-id (run called es k .answers))
 
   -- They leave a controller that is one: possible stays possible.
   pub calls-sound : Sound (run called es k .end)

@@ -22,11 +22,12 @@ use Rattle.registers.specs.Boxes.{Setting, Holds, Inside, World, named, Finish,
 use Rattle.codes.specs.Table.{commandOf, commandBy, rows}
 use Rattle.codes.specs.Second.{driveOf, headOf}
 use Rattle.commands.specs.Commands.{puts, seekIf, startAt, writeData, writeReply, saveAt, written, obeyed}
-use Rattle.saves.specs.Events.{Event, Played, play, sentIn}
-use Rattle.saves.specs.Words.{inDrive, Ready, Address, Save, bytesOf, addressOf, IsSave, savedAt, savedBy}
+use Rattle.runs.specs.Events.{Event, run}
+use Rattle.runs.specs.Stages.{Stage, acted}
+use Rattle.saves.specs.Words.{inDrive, Ready, Address, Save, bytesOf, addressOf, IsSave, savedAt, savedBy, Sends, Only}
 use Rattle.saves.proofs.Finds.{mapFound}
-use Rattle.saves.proofs.Places.{at, save-twice, save-found, save-other, save-comm, Only, save-only}
-use Rattle.saves.proofs.Feeding.{effected, fed, insides, play-inside, driveOver, partly, writing, Written, command-fed, data-fed}
+use Rattle.saves.proofs.Places.{at, save-twice, save-found, save-other, save-comm, save-only}
+use Rattle.saves.proofs.Feeding.{effected, fed, run-fed, driveOver, partly, writing, Written, command-fed, data-fed}
 
 -- ---- the three parts of a save
 
@@ -89,32 +90,33 @@ ready-is w d h k = record {
   drives = record { first = record { cylinder = w .inside .drives .first .cylinder; slot = h .disk-in k } };
 }
 
--- inside, after a save: the head has moved, and the disk is the one that the save leaves
-pub saved-inside : (s : Setting) (a : Save) (d : Disk) (w : World) (es : List Event) (p : Played) → Ready w d → IsSave a d → sentIn es ≡ bytesOf a → play s es w ≡ good p
-    → p .world .inside ≡ partly (w .inside .motor) (a .cylinder) (w .inside .index) (savedBy a d) []
-saved-inside s a d w es p ready save bytes ran =
+-- inside, after a save: the head has moved, and the disk is the one that the save leaves; the rooms stay
+pub saved-inside : (a : Save) (d : Disk) (g : Stage) (es : List Event) → Ready (g .world) d → IsSave a d → Sends es (bytesOf a) (run acted es g .answers)
+    → run acted es g .end .world .inside ≡ partly (g .world .inside .motor) (a .cylinder) (g .world .inside .index) (savedBy a d) []
+saved-inside a d g es ready save made =
+    let s : Setting = g .setting in
+    let w : World = g .world in
     let i : Inside = partly (w .inside .motor) (w .inside .drives .first .cylinder) (w .inside .index) d [] in
-    let e : good (p .world .inside) ≡ fed s (bytesOf a) i = ap insides (sym ran) ∙ play-inside s es w ∙ ap (λ (l : List ℕ). fed s l (w .inside)) bytes ∙ ap (fed s (bytesOf a)) (ready-is w d ready) in
-    need-good (leb (byteCount (savedBy a d)) (s .room)) NoRoom (partly (w .inside .motor) (a .cylinder) (w .inside .index) (savedBy a d) []) (p .world .inside)
-    (sym (e ∙ save-fed s (w .inside .motor) (w .inside .index) d (w .inside .drives .first .cylinder) a save))
+    let e : fed s (bytesOf a) i ≡ good (run acted es g .end .world .inside) = ap (fed s (bytesOf a)) (sym (ready-is w d ready)) ∙ run-fed es g (bytesOf a) (made .sends) (made .grants) .inside in
+    need-good (leb (byteCount (savedBy a d)) (s .room)) NoRoom (partly (w .inside .motor) (a .cylinder) (w .inside .index) (savedBy a d) []) (run acted es g .end .world .inside)
+    (sym (save-fed s (w .inside .motor) (w .inside .index) d (w .inside .drives .first .cylinder) a save) ∙ e)
 
 -- and the next one may begin
-saved-ready : (s : Setting) (a : Save) (d : Disk) (w : World) (es : List Event) (p : Played) → Ready w d → IsSave a d → sentIn es ≡ bytesOf a → play s es w ≡ good p
-    → Ready (p .world) (savedBy a d)
-saved-ready s a d w es p ready save bytes ran =
-    let e = saved-inside s a d w es p ready save bytes ran in
+pub saved-ready : (a : Save) (d : Disk) (g : Stage) (es : List Event) → Ready (g .world) d → IsSave a d → Sends es (bytesOf a) (run acted es g .answers)
+    → Ready (run acted es g .end .world) (savedBy a d)
+saved-ready a d g es ready save made =
+    let e = saved-inside a d g es ready save made in
     record { disk-in = ap (λ (i : Inside). i .drives .first .slot) e; nothing-sent = ap (λ (i : Inside). i .command) e; no-write = ap (λ (i : Inside). i .write) e }
 
 -- ---- the demand
 
--- A save, with any port reads before, between and after its bytes, from any state that is ready, if nothing is refused: the content of the sector
--- that the search finds at its address is the bytes sent, and nothing else on the disk changes.
-pub save-touches : (s : Setting) (a : Save) (d : Disk) (w : World) (es : List Event) (p : Played)
-    → Ready w d → (save : IsSave a d) → sentIn es ≡ bytesOf a → play s es w ≡ good p
-    → Ready (p .world) (savedBy a d) × Only (addressOf a) (a .content) (save .place) (save .sector) d (savedBy a d)
+-- A save, with any port reads and questions before, between and after its bytes, from any state that is ready, if nothing is refused: the content of
+-- the sector that the search finds at its address is the bytes sent, and nothing else on the disk changes.
+pub save-touches : (a : Save) (d : Disk) (g : Stage) (es : List Event) → Ready (g .world) d → (save : IsSave a d) → Sends es (bytesOf a) (run acted es g .answers)
+    → Ready (run acted es g .end .world) (savedBy a d) × Only (addressOf a) (a .content) (save .sector) d (savedBy a d)
 unfolding addressOf
-save-touches s a d w es p ready save bytes ran =
-    (saved-ready s a d w es p ready save bytes ran, save-only (addressOf a) (a .content) (save .place) (save .sector) d (save .there))
+save-touches a d g es ready save made =
+    (saved-ready a d g es ready save made, save-only (addressOf a) (a .content) (save .place) (save .sector) d (save .there))
 
 -- a save that is one stays one after a save to the same address, and to another
 still-same : (a b : Save) (d : Disk) → addressOf a ≡ addressOf b → IsSave b d → IsSave b (savedBy a d)
@@ -142,24 +144,24 @@ still-other a b d e h = record {
 }
 
 -- Two saves to one address leave the disk that the second alone leaves.
-pub second-alone : (s : Setting) (a b : Save) (d : Disk) (w : World) (es fs gs : List Event) (p q r : Played)
-    → Ready w d → IsSave a d → IsSave b d → addressOf a ≡ addressOf b
-    → sentIn es ≡ bytesOf a → play s es w ≡ good p
-    → sentIn fs ≡ bytesOf b → play s fs (p .world) ≡ good q
-    → sentIn gs ≡ bytesOf b → play s gs w ≡ good r
-    → inDrive (q .world) ≡ inDrive (r .world)
-second-alone s a b d w es fs gs p q r ready sa sb same ea ra eb rb ec rc =
-    saved-ready s b (savedBy a d) (p .world) fs q (saved-ready s a d w es p ready sa ea ra) (still-same a b d same sb) eb rb .disk-in
+pub second-alone : (a b : Save) (d : Disk) (g : Stage) (es fs gs : List Event)
+    → Ready (g .world) d → IsSave a d → IsSave b d → addressOf a ≡ addressOf b
+    → Sends es (bytesOf a) (run acted es g .answers)
+    → Sends fs (bytesOf b) (run acted fs (run acted es g .end) .answers)
+    → Sends gs (bytesOf b) (run acted gs g .answers)
+    → inDrive (run acted fs (run acted es g .end) .end .world) ≡ inDrive (run acted gs g .end .world)
+second-alone a b d g es fs gs ready sa sb same ma mb mc =
+    saved-ready b (savedBy a d) (run acted es g .end) fs (saved-ready a d g es ready sa ma) (still-same a b d same sb) mb .disk-in
     ∙ ap (λ (y : Disk). Holds (good y)) (ap (λ (y : Address). savedAt (addressOf b) (b .content) (savedAt y (a .content) d)) same ∙ save-twice (addressOf b) (a .content) (b .content) d)
-    ∙ sym (saved-ready s b d w gs r ready sb ec rc .disk-in)
+    ∙ sym (saved-ready b d g gs ready sb mc .disk-in)
 
 -- Saves to two addresses leave the same disk in either order, if neither order is refused.
-pub either-order : (s : Setting) (a b : Save) (d : Disk) (w : World) (es fs fs′ es′ : List Event) (p q p′ q′ : Played)
-    → Ready w d → IsSave a d → IsSave b d → (addressOf a ≡ addressOf b → ⊥)
-    → sentIn es ≡ bytesOf a → play s es w ≡ good p → sentIn fs ≡ bytesOf b → play s fs (p .world) ≡ good q
-    → sentIn fs′ ≡ bytesOf b → play s fs′ w ≡ good p′ → sentIn es′ ≡ bytesOf a → play s es′ (p′ .world) ≡ good q′
-    → inDrive (q .world) ≡ inDrive (q′ .world)
-either-order s a b d w es fs fs′ es′ p q p′ q′ ready sa sb differ ea ra eb rb eb′ rb′ ea′ ra′ =
-    saved-ready s b (savedBy a d) (p .world) fs q (saved-ready s a d w es p ready sa ea ra) (still-other a b d differ sb) eb rb .disk-in
+pub either-order : (a b : Save) (d : Disk) (g : Stage) (es fs fs′ es′ : List Event)
+    → Ready (g .world) d → IsSave a d → IsSave b d → (addressOf a ≡ addressOf b → ⊥)
+    → Sends es (bytesOf a) (run acted es g .answers) → Sends fs (bytesOf b) (run acted fs (run acted es g .end) .answers)
+    → Sends fs′ (bytesOf b) (run acted fs′ g .answers) → Sends es′ (bytesOf a) (run acted es′ (run acted fs′ g .end) .answers)
+    → inDrive (run acted fs (run acted es g .end) .end .world) ≡ inDrive (run acted es′ (run acted fs′ g .end) .end .world)
+either-order a b d g es fs fs′ es′ ready sa sb differ ma mb mb′ ma′ =
+    saved-ready b (savedBy a d) (run acted es g .end) fs (saved-ready a d g es ready sa ma) (still-other a b d differ sb) mb .disk-in
     ∙ ap (λ (y : Disk). Holds (good y)) (save-comm (addressOf a) (addressOf b) differ (a .content) (b .content) d)
-    ∙ sym (saved-ready s a (savedBy b d) (p′ .world) es′ q′ (saved-ready s b d w fs′ p′ ready sb eb′ rb′) (still-other b a d (λ e. differ (sym e)) sa) ea′ ra′ .disk-in)
+    ∙ sym (saved-ready a (savedBy b d) (run acted fs′ g .end) es′ (saved-ready b d g fs′ ready sb mb′) (still-other b a d (λ e. differ (sym e)) sa) ma′ .disk-in)

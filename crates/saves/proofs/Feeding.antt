@@ -2,9 +2,9 @@
 use mathlib.Core.Path.{_≡_, refl, sym, ap, _∙_}
 use Prim.Native.Nat.{ℕ, suc, _+_, _<_}
 use native.Mathlib.Omega.{arith}
-use mathlib.Core.Bool.{Bool}
+use mathlib.Core.Bool.{Bool, true}
 use mathlib.Core.List.{List, [], _∷_, _++_, append-nil}
-use mathlib.Core.Option.{none, some}
+use mathlib.Core.Option.{Option, none, some}
 use lib.ListN.{length, length-append}
 use lib.Seq.{append-snoc}
 use borrow.Author.Tests.{eq-eqb, ne-eqb}
@@ -14,10 +14,13 @@ use Rattle.fields.specs.declared.id.SectorId.{SectorId}
 use Rattle.codes.specs.declared.command.Command.{Command}
 use Rattle.registers.specs.Boxes.{Setting, Holds, Drives, Inside, World, Add, Hold, Effect, Sent, named, taken, changed, allChanged, putIn}
 use Rattle.codes.specs.Table.{commandOf, bytesFor}
-use Rattle.registers.specs.Ports.{status, afterStatus, portByte, afterRead}
+use Rattle.registers.specs.Ports.{afterStatus, afterRead}
 use Rattle.commands.specs.Commands.{byte, obeyed, written}
 use Rattle.sending.specs.Machine.{sends, clearing, commandIf, commandByte, dataIf, dataByte, byteFor, sent, done, writePort}
-use Rattle.saves.specs.Events.{Event, poll, read, send, Answer, showed, gave, took, Played, noting, play, sentIn}
+use Rattle.fields.proofs.Tests.{never}
+use Rattle.runs.specs.Events.{Question, motorOn?, whichTrack?, diskIn?, Event, poll, read, send, ask, switch, swap, widen, Answer, took, Next, run, granted}
+use Rattle.runs.specs.Stages.{Stage, withWorld, sentOn, answerTo, acted}
+use Rattle.saves.specs.Words.{firstOf, sentIn}
 
 -- ---- a byte, inside
 
@@ -33,30 +36,66 @@ unfoldable pub fed : Setting → List ℕ → Inside → Result Inside
 fed s [] i = good i
 fed s (b ∷ bs) i = after (stepped s i b) (λ j. fed s bs j)
 
-abbrev pub insides : Result Played → Result Inside
-insides (refused why) = refused why
-insides (good p) = good (p .world .inside)
+-- one byte that is sent, before others
+first-is : (b : ℕ) (o : Option (List ℕ)) (l : List ℕ) → firstOf b o ≡ some l → (m : List ℕ) → o ≡ some m → l ≡ b ∷ m
+first-is b none l e m q = never (cc)
+first-is b (some n) l e m q = let z : b ∷ n ≡ l = cc in let y : n ≡ m = cc in sym z ∙ ap (λ (v : List ℕ). b ∷ v) y
 
--- what is noted changes nothing inside
-noted : (a : Answer) (r : Result Played) → insides (noting a r) ≡ insides r
-noted a (refused why) = refl
-noted a (good p) = refl
+-- what a sequence of port reads, questions and sent bytes does: its bytes do it inside, and the rooms stay
+pub record Fed (es : List Event) (g : Stage) (l : List ℕ) : Type 0 where
+  pub inside : fed (g .setting) l (g .world .inside) ≡ good (run acted es g .end .world .inside)
+  pub rooms : run acted es g .end .setting ≡ g .setting
 
--- a byte sent, by what it does
-sent-go : (s : Setting) (es : List Event) (w : World) (x : Result Sent) → ((v : World) → insides (play s es v) ≡ fed s (sentIn es) (v .inside))
-    → insides (after (after x (λ y. good (done w y))) (λ v. noting took (play s es v)))
-    ≡ after (after x (λ y. good (effected (y .effect) (taken (y .taking) (w .inside))))) (λ j. fed s (sentIn es) j)
-unfolding done
-sent-go s es w (refused why) ih = refl
-sent-go s es w (good y) ih = noted took (play s es (done w y)) ∙ ih (done w y)
+-- a byte sent that is taken, on the machine and inside
+module _ (b : ℕ) (g : Stage) (y : Sent) (q : sent (g .setting) (g .world .inside) b ≡ good y) where
+  taken-is : acted (send b) g ≡ record { answer = took; then = withWorld (done (g .world) y) g }
+  unfolding acted writePort
+  taken-is = ap (λ (z : Result Sent). sentOn g (after z (λ v. good (done (g .world) v)))) q
 
--- port reads change nothing inside: what a run does there, its sent bytes do
-pub play-inside : (s : Setting) (es : List Event) (w : World) → insides (play s es w) ≡ fed s (sentIn es) (w .inside)
-unfolding play sentIn fed afterStatus afterRead writePort stepped
-play-inside s [] w = refl
-play-inside s (poll ∷ es) w = noted (showed (status w)) (play s es (afterStatus w)) ∙ play-inside s es (afterStatus w)
-play-inside s (read ∷ es) w = noted (gave (portByte w)) (play s es (afterRead w)) ∙ play-inside s es (afterRead w)
-play-inside s (send b ∷ es) w = sent-go s es w (sent s (w .inside) b) (play-inside s es)
+  end-is : (es : List Event) → run acted (send b ∷ es) g .end ≡ run acted es (withWorld (done (g .world) y) g) .end
+  unfolding run
+  end-is es = ap (λ (z : Next Answer Stage). run acted es (z .then) .end) taken-is
+
+  step-is : (m : List ℕ) → fed (g .setting) (b ∷ m) (g .world .inside) ≡ fed (g .setting) m (done (g .world) y .inside)
+  unfolding fed stepped done
+  step-is m = ap (λ (z : Result Sent). after (after z (λ v. good (effected (v .effect) (taken (v .taking) (g .world .inside))))) (λ j. fed (g .setting) m j)) q
+
+-- the answer to a byte, and what follows
+abbrev AfterByte : List Event → Stage → Result Sent → List Answer
+AfterByte es g x = let y : Next Answer Stage = sentOn g (after x (λ v. good (done (g .world) v))) in y .answer ∷ run acted es (y .then) .answers
+
+sent-go : (b : ℕ) (es : List Event) (g : Stage) (l : List ℕ) → firstOf b (sentIn es) ≡ some l
+    → ((h : Stage) (m : List ℕ) → sentIn es ≡ some m → granted (run acted es h .answers) ≡ true → Fed es h m)
+    → (o : Option (List ℕ)) → sentIn es ≡ o → (x : Result Sent) → sent (g .setting) (g .world .inside) b ≡ x → granted (AfterByte es g x) ≡ true → Fed (send b ∷ es) g l
+unfolding granted
+sent-go b es g l e ih none n x q ok = let z : firstOf b none ≡ some l = ap (firstOf b) (sym n) ∙ e in never (cc)
+sent-go b es g l e ih (some m) n (refused why) q ok = never (cc)
+sent-go b es g l e ih (some m) n (good y) q ok =
+    let r = ih (withWorld (done (g .world) y) g) m n ok in
+    record {
+      inside = ap (λ (v : List ℕ). fed (g .setting) v (g .world .inside)) (first-is b (sentIn es) l e m n) ∙ step-is b g y q m ∙ r .inside ∙ ap (λ (z : Stage). good (z .world .inside)) (sym (end-is b g y q es));
+      rooms = ap (λ (z : Stage). z .setting) (end-is b g y q es) ∙ r .rooms;
+    }
+
+-- an answer to a question is no refusal
+asked-grants : (q : Question) (w : World) (l : List Answer) → granted (answerTo q w ∷ l) ≡ granted l
+unfolding answerTo granted
+asked-grants motorOn? w l = refl
+asked-grants whichTrack? w l = refl
+asked-grants diskIn? w l = refl
+
+-- port reads and questions change nothing inside: what a sequence does there, its sent bytes do
+pub run-fed : (es : List Event) (g : Stage) (l : List ℕ) → sentIn es ≡ some l → granted (run acted es g .answers) ≡ true → Fed es g l
+unfolding run sentIn fed acted writePort afterStatus afterRead granted
+run-fed [] g l e ok = let z : [] ≡ l = cc in record { inside = ap (λ (v : List ℕ). fed (g .setting) v (g .world .inside)) (sym z); rooms = refl }
+run-fed (poll ∷ es) g l e ok = let r = run-fed es (acted poll g .then) l e ok in record { inside = r .inside; rooms = r .rooms }
+run-fed (read ∷ es) g l e ok = let r = run-fed es (acted read g .then) l e ok in record { inside = r .inside; rooms = r .rooms }
+run-fed (send b ∷ es) g l e ok =
+    sent-go b es g l e (run-fed es) (sentIn es) refl (sent (g .setting) (g .world .inside) b) refl ok
+run-fed (ask q ∷ es) g l e ok = let r = run-fed es g l e (sym (asked-grants q (g .world) (run acted es g .answers)) ∙ ok) in record { inside = r .inside; rooms = r .rooms }
+run-fed (switch on ∷ es) g l e ok = never (cc)
+run-fed (swap present t b ∷ es) g l e ok = never (cc)
+run-fed (widen y ∷ es) g l e ok = never (cc)
 
 -- ---- a byte of a command
 

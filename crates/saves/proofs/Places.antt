@@ -13,7 +13,7 @@ use Rattle.fields.proofs.Tests.{never, and-fst, and-snd}
 use Rattle.store.specs.Find.{Found, nothing, found, find}
 use Rattle.store.specs.Search.{isTrack, isSector, inTrack, sectorAt}
 use Rattle.disk.specs.Change.{change, withContent, savedIn, saved}
-use Rattle.saves.specs.Words.{Address, savedAt}
+use Rattle.saves.specs.Words.{Address, withSectors, savedAt, Only}
 use Rattle.saves.proofs.Finds.{mapFound, change-change, find-change, find-other, change-comm, Changed, changed-one}
 
 -- the sector at an address
@@ -39,10 +39,6 @@ is-sector i s e =
 true-or-false : (a b : Bool) → (b ≡ true → a ≡ true → ⊥) → a ≡ true → b ≡ false
 true-or-false a true h e = absurd (h refl e)
 true-or-false a false h e = refl
-
--- a track with other sectors
-abbrev withSectors : List Sector → Track → Track
-withSectors ss t = record { cylinder = t .cylinder; side = t .side; size = t .size; gap = t .gap; filler = t .filler; sectors = ss }
 
 -- ---- twice to one address: the second alone
 pub save-twice : (a : Address) (x y : List ℕ) (d : Disk) → savedAt a y (savedAt a x d) ≡ savedAt a y d
@@ -123,25 +119,11 @@ save-comm a b differ x y d = go (apart a b differ)
 
 -- ---- nothing else
 
--- one track of the disk is another, with one sector's bytes another's; every other track and sector stands as it stood, in its place
-pub record Only (a : Address) (x : List ℕ) (k : ℕ) (s : Sector) (d d′ : Disk) : Type 0 where
-  pub before : List Track
-  pub behind : List Track
-  pub track : Track
-  pub front : List Sector
-  pub back : List Sector
-  pub was : d ≡ before ++ (track ∷ behind)
-  pub is : d′ ≡ before ++ (record { cylinder = track .cylinder; side = track .side; size = track .size; gap = track .gap; filler = track .filler; sectors = front ++ (record { id = s .id; st1 = s .st1; st2 = s .st2; content = x } ∷ back) } ∷ behind)
-  pub sectors-were : track .sectors ≡ front ++ (s ∷ back)
-  pub first-track : find (isTrack (a .side) (a .cylinder)) before ≡ nothing
-  pub first-sector : find (isSector (a .id)) front ≡ nothing
-  pub named-so : s .id ≡ a .id
-
-pub save-only : (a : Address) (x : List ℕ) (k : ℕ) (s : Sector) (d : Disk) → at a d ≡ found k s → Only a x k s d (savedAt a x d)
+pub save-only : (a : Address) (x : List ℕ) (k : ℕ) (s : Sector) (d : Disk) → at a d ≡ found k s → Only a x s d (savedAt a x d)
 unfolding savedAt saved sectorAt
 save-only a x k s d e = go (find (isTrack (a .side) (a .cylinder)) d) refl e
   where
-    go : (o : Found Track) → find (isTrack (a .side) (a .cylinder)) d ≡ o → inTrack (a .id) o ≡ found k s → Only a x k s d (change (isTrack (a .side) (a .cylinder)) (savedIn (a .id) x) d)
+    go : (o : Found Track) → find (isTrack (a .side) (a .cylinder)) d ≡ o → inTrack (a .id) o ≡ found k s → Only a x s d (change (isTrack (a .side) (a .cylinder)) (savedIn (a .id) x) d)
     go nothing p q = never (cc)
     go (found n t) p q =
         let u : Changed (isTrack (a .side) (a .cylinder)) (savedIn (a .id) x) n t 0 d = changed-one (isTrack (a .side) (a .cylinder)) (savedIn (a .id) x) n t 0 d p in
@@ -155,6 +137,8 @@ save-only a x k s d e = go (find (isTrack (a .side) (a .cylinder)) d) refl e
           was = u .was;
           is = u .is ∙ ap (λ (ss : List Sector). u .front ++ (withSectors ss t ∷ u .back)) (v .is);
           sectors-were = v .was;
+          at-cylinder = is-track (a .side) (a .cylinder) t (u .passes) .0;
+          at-side = is-track (a .side) (a .cylinder) t (u .passes) .1;
           first-track = u .none-before;
           first-sector = v .none-before;
           named-so = is-sector (a .id) s (v .passes);

@@ -1,5 +1,5 @@
 -- A Read Data after a save hands out its bytes, and then the reply.
-use mathlib.Core.Path.{_≡_, refl, sym, ap, _∙_}
+use mathlib.Core.Path.{_≡_, refl, sym, ap, subst, _∙_}
 use Prim.Native.Nat.{ℕ, suc, _+_, _-_, _≤_}
 use native.Mathlib.Omega.{arith}
 use mathlib.Core.Bool.{Bool, true, false}
@@ -26,11 +26,12 @@ use Rattle.registers.specs.Ports.{polled, Poll, Stays, Counts, Drops, afterStat
 use Rattle.codes.specs.Second.{u, driveOf, headOf}
 use Rattle.commands.specs.Commands.{does, markOf, sizesOf, readReply, servedAs, readData, obeyed}
 use Rattle.sending.specs.Machine.{sends, clearing, commandIf, commandByte, byteFor, sent, done, writePort}
-use Rattle.saves.specs.Events.{Event, poll, read, send, Answer, Played, noting, play, sentIn}
-use Rattle.saves.specs.Words.{Ready, Save, bytesOf, addressOf, IsSave, savedBy, ReadsBack, readBytes, replyTo, LosesNone, dataReads, givenIn}
+use Rattle.runs.specs.Events.{Question, motorOn?, whichTrack?, diskIn?, Event, poll, read, send, ask, switch, swap, widen, Answer, Next, run, granted}
+use Rattle.runs.specs.Stages.{Stage, sentOn, answerTo, acted}
+use Rattle.saves.specs.Words.{Ready, Save, bytesOf, addressOf, IsSave, savedBy, Sends, ReadsBack, readBytes, replyTo, LosesNone, dataReads, givenIn}
 use Rattle.saves.proofs.Finds.{mapFound}
 use Rattle.saves.proofs.Places.{save-found, save-only}
-use Rattle.saves.proofs.Feeding.{fed, insides, play-inside, partly, part-fed}
+use Rattle.saves.proofs.Feeding.{fed, run-fed, partly, part-fed}
 use Rattle.saves.proofs.Demand.{drive-0, saved-inside}
 
 -- ---- what is handed out
@@ -55,53 +56,31 @@ reply-first : (w : World) (y : ℕ) (ys : List ℕ) → w .front .unread ≡ [] 
 unfolding portByte given afterRead readFrom
 reply-first w y ys e f = rw (e, f) (refl, (refl, refl))
 
--- the calls that a run answers, one by one
-noted-good : (a : Answer) (r : Result Played) (p : Played) → noting a r ≡ good p → (q : Played) → r ≡ good q → p .answers ≡ a ∷ q .answers
-noted-good a (refused why) p e q f = never (cc)
-noted-good a (good q′) p e q f =
-    let z : record { answers = a ∷ q′ .answers; world = q′ .world } ≡ p = cc in
-    let y : q′ ≡ q = cc in
-    sym (ap (λ (v : Played). v .answers) z) ∙ ap (λ (v : Played). a ∷ v .answers) y
+-- nor is an answer to a question a byte that the data port gave
+asked-gives : (q : Question) (w : World) (l : List Answer) → givenIn (answerTo q w ∷ l) ≡ givenIn l
+unfolding answerTo givenIn
+asked-gives motorOn? w l = refl
+asked-gives whichTrack? w l = refl
+asked-gives diskIn? w l = refl
 
-module _ (s : Setting) where
-  pub handed : (es : List Event) (w : World) (xs ys : List ℕ) (p : Played) → w .front .unread ≡ xs → w .front .reply ≡ ys → LosesNone es w → length xs + length ys ≤ dataReads es
-      → play s es w ≡ good p → take (length xs + length ys) (givenIn (p .answers)) ≡ xs ++ ys
-  unfolding play LosesNone dataReads givenIn
-  handed [] w [] [] p e f h n r = refl
-  handed [] w (x ∷ xs) ys p e f h n r = absurd (omega arith)
-  handed [] w [] (y ∷ ys) p e f h n r = absurd (omega arith)
-  handed (send b ∷ es) w xs ys p e f h n r = absurd h
-  handed (poll ∷ es) w xs ys p e f h n r = go (play s es (afterStatus w)) refl (handed es (afterStatus w) xs ys)
-    where
-      go : (z : Result Played) → play s es (afterStatus w) ≡ z
-          → ((q : Played) → afterStatus w .front .unread ≡ xs → afterStatus w .front .reply ≡ ys → LosesNone es (afterStatus w) → length xs + length ys ≤ dataReads es → play s es (afterStatus w) ≡ good q → take (length xs + length ys) (givenIn (q .answers)) ≡ xs ++ ys)
-          → take (length xs + length ys) (givenIn (p .answers)) ≡ xs ++ ys
-      go (refused why) g ih = let c : refused why ≡ good p = ap (noting _) (sym g) ∙ r in never (cc)
-      go (good q) g ih =
-          ap (λ (l : List Answer). take (length xs + length ys) (givenIn l)) (noted-good _ (play s es (afterStatus w)) p r q g)
-          ∙ (ih q (h .0 ∙ e) (status-reply w ∙ f) (h .1) n g)
-  handed (read ∷ es) w xs ys p e f h n r = go (play s es (afterRead w)) refl xs ys e f n (λ xs ys. handed es (afterRead w) xs ys)
-    where
-      go : (z : Result Played) → play s es (afterRead w) ≡ z → (xs ys : List ℕ) → w .front .unread ≡ xs → w .front .reply ≡ ys → length xs + length ys ≤ suc (dataReads es)
-          → ((xs ys : List ℕ) (q : Played) → afterRead w .front .unread ≡ xs → afterRead w .front .reply ≡ ys → LosesNone es (afterRead w) → length xs + length ys ≤ dataReads es → play s es (afterRead w) ≡ good q → take (length xs + length ys) (givenIn (q .answers)) ≡ xs ++ ys)
-          → take (length xs + length ys) (givenIn (p .answers)) ≡ xs ++ ys
-      go (refused why) g xs ys e f n ih = let c : refused why ≡ good p = ap (noting _) (sym g) ∙ r in never (cc)
-      go (good q) g [] [] e f n ih = refl
-      go (good q) g (x ∷ xs) ys e f n ih =
-          let d = data-first w x xs e in
-          let more : length (x ∷ xs) + length ys ≡ suc (length xs + length ys) = omega arith in
-          ap (λ (k : ℕ). take k (givenIn (p .answers))) more
-          ∙ ap (λ (l : List Answer). take (suc (length xs + length ys)) (givenIn l)) (noted-good _ (play s es (afterRead w)) p r q g)
-          ∙ (ap (λ (v : ℕ). v ∷ take (length xs + length ys) (givenIn (q .answers))) (d .0))
-          ∙ ap (λ (l : List ℕ). x ∷ l) (ih xs ys q (d .1 .0) (d .1 .1 ∙ f) h (omega arith) g)
-      go (good q) g [] (y ∷ ys) e f n ih =
-          let d = reply-first w y ys e f in
-          let more : length {A = ℕ} [] + length (y ∷ ys) ≡ suc (length ys) = omega arith in
-          let same : length ys ≡ length {A = ℕ} [] + length ys = omega arith in
-          ap (λ (k : ℕ). take k (givenIn (p .answers))) more
-          ∙ ap (λ (l : List Answer). take (suc (length ys)) (givenIn l)) (noted-good _ (play s es (afterRead w)) p r q g)
-          ∙ (ap (λ (v : ℕ). v ∷ take (length ys) (givenIn (q .answers))) (d .0))
-          ∙ ap (λ (l : List ℕ). y ∷ l) (ap (λ (k : ℕ). take k (givenIn (q .answers))) same ∙ ih [] ys q (d .1 .0) (d .1 .1) h (omega arith) g)
+-- what is handed out to port reads of which no status read loses a byte: the data, and then the reply, as far as they are read
+pub handed : (es : List Event) (g : Stage) (xs ys : List ℕ) → g .world .front .unread ≡ xs → g .world .front .reply ≡ ys → LosesNone es (g .world)
+    → dataReads es ≤ length xs + length ys → givenIn (run acted es g .answers) ≡ take (dataReads es) (xs ++ ys)
+unfolding run acted LosesNone dataReads givenIn
+handed [] g xs ys e f h n = refl
+handed (poll ∷ es) g xs ys e f h n = handed es (acted poll g .then) xs ys (h .0 ∙ e) (status-reply (g .world) ∙ f) (h .1) n
+handed (ask q ∷ es) g xs ys e f h n = asked-gives q (g .world) (run acted es g .answers) ∙ handed es g xs ys e f h n
+handed (read ∷ es) g (x ∷ xs) ys e f h n =
+    let d = data-first (g .world) x xs e in
+    (λ i. d .0 i ∷ handed es (acted read g .then) xs ys (d .1 .0) (d .1 .1 ∙ f) h (omega arith) i)
+handed (read ∷ es) g [] (y ∷ ys) e f h n =
+    let d = reply-first (g .world) y ys e f in
+    (λ i. d .0 i ∷ handed es (acted read g .then) [] ys (d .1 .0) (d .1 .1) h (omega arith) i)
+handed (read ∷ es) g [] [] e f h n = absurd (omega arith)
+handed (send b ∷ es) g xs ys e f h n = absurd h
+handed (switch on ∷ es) g xs ys e f h n = absurd h
+handed (swap present t b ∷ es) g xs ys e f h n = absurd h
+handed (widen y ∷ es) g xs ys e f h n = absurd h
 
 -- ---- the Read Data
 
@@ -114,11 +93,21 @@ read-one (found n t) id eot k z e h =
 
 -- the effect of the last byte, if it is not refused
 module _ (room : ℕ) (bytes reply : List ℕ) where
-  serves : (v : Bool) (w w′ : World) (b : ℕ) → after (sends (Add b) (clearing (need v NoTransferRoom (does [] (Serve bytes reply))))) (λ x. good (done w x)) ≡ good w′
-      → (w′ .front .unread ≡ bytes) × (w′ .front .reply ≡ reply)
-  unfolding done responded
-  serves true w w′ b e = let z : done w (record { taking = Add b; effect = record { changes = Clear ∷ []; response = Serve bytes reply; put = none } }) ≡ w′ = cc in (sym (ap (λ (v : World). v .front .unread) z), sym (ap (λ (v : World). v .front .reply) z))
-  serves false w w′ b e = never (cc)
+  served : (v : Bool) (g : Stage) (b : ℕ)
+      → let y : Next Answer Stage = sentOn g (after (sends (Add b) (clearing (need v NoTransferRoom (does [] (Serve bytes reply))))) (λ x. good (done (g .world) x))) in
+      granted (y .answer ∷ []) ≡ true → (y .then .world .front .unread ≡ bytes) × (y .then .world .front .reply ≡ reply)
+  unfolding done responded granted
+  served true g b e = (refl, refl)
+  served false g b e = never (cc)
+
+  serves : (v : Bool) (g : Stage) (b : ℕ)
+      → sent (g .setting) (g .world .inside) b ≡ sends (Add b) (clearing (need v NoTransferRoom (does [] (Serve bytes reply))))
+      → granted (run acted (send b ∷ []) g .answers) ≡ true
+      → (run acted (send b ∷ []) g .end .world .front .unread ≡ bytes) × (run acted (send b ∷ []) g .end .world .front .reply ≡ reply)
+  unfolding run acted writePort
+  serves v g b e ok =
+      subst (λ (x : Result Sent). let y : Next Answer Stage = sentOn g (after x (λ v. good (done (g .world) v))) in granted (y .answer ∷ []) ≡ true → (y .then .world .front .unread ≡ bytes) × (y .then .world .front .reply ≡ reply))
+      (sym e) (served v g b) ok
 
 -- the last byte of a Read Data that finds one sector
 module _ (s : Setting) (m : Bool) (c x : ℕ) (new : Disk) (code c1 : ℕ) (id : SectorId) (eot gap dtl : ℕ) (z : Sector) where
@@ -166,31 +155,35 @@ module _ (a : Save) (d : Disk) (c1 eot : ℕ) (save : IsSave a d) where
       let e : sizeOf (save .sector .id .n) ≡ sizeOf (a .id .n) = ap (λ (i : SectorId). sizeOf (i .n)) n in
       ap length kept-bytes ∙ omega (arith, save .as-many, e)
 
--- A Read Data of the saved sector alone, sent next with port reads wherever they fall, hands out the save's bytes in order and then the reply,
--- to data-port reads of which no status read loses a byte.
-pub read-back : (s : Setting) (a : Save) (d : Disk) (code c1 eot gap dtl : ℕ) (w u′ : World) (es fs gs : List Event) (p q r : Played)
-    → Ready w d → (save : IsSave a d) → sentIn es ≡ bytesOf a → play s es w ≡ good p
-    → ReadsBack a code c1 eot → sentIn fs ≡ readBytes a code c1 eot gap → play s fs (p .world) ≡ good q
-    → writePort s (q .world) dtl ≡ good u′
-    → LosesNone gs u′ → length (a .content) + 7 ≤ dataReads gs → play s gs u′ ≡ good r
-    → take (length (a .content) + 7) (givenIn (r .answers)) ≡ a .content ++ replyTo a c1 eot (save .sector)
-unfolding readBytes replyTo writePort
-read-back s a d code c1 eot gap dtl w u′ es fs gs p q r ready save es-is ran-es back fs-is ran-fs last none-lost enough ran-gs =
-    let m : Bool = w .inside .motor in
-    let x : ℕ = w .inside .index in
+-- A Read Data of the saved sector alone, sent next with port reads and questions wherever they fall, hands out the save's bytes in order and then the
+-- reply, to however many data-port reads follow, of which no status read loses a byte.
+pub read-back : (a : Save) (d : Disk) (code c1 eot gap dtl : ℕ) (g : Stage) (es fs gs : List Event)
+    → Ready (g .world) d → (save : IsSave a d) → Sends es (bytesOf a) (run acted es g .answers)
+    → let p : Stage = run acted es g .end in
+    ReadsBack a code c1 eot → Sends fs (readBytes a code c1 eot gap) (run acted fs p .answers)
+    → let q : Stage = run acted fs p .end in
+    Sends (send dtl ∷ []) (dtl ∷ []) (run acted (send dtl ∷ []) q .answers)
+    → let r : Stage = run acted (send dtl ∷ []) q .end in
+    LosesNone gs (r .world) → dataReads gs ≤ length (a .content) + 7
+    → givenIn (run acted gs r .answers) ≡ take (dataReads gs) (a .content ++ replyTo a c1 eot (save .sector))
+unfolding readBytes replyTo
+read-back a d code c1 eot gap dtl g es fs gs ready save made back began last none-lost few =
+    let m : Bool = g .world .inside .motor in
+    let x : ℕ = g .world .inside .index in
+    let p : Stage = run acted es g .end in
+    let q : Stage = run acted fs p .end in
     let eight : List ℕ = code ∷ c1 ∷ a .id .c ∷ a .id .h ∷ a .id .r ∷ a .id .n ∷ eot ∷ gap ∷ [] in
     let i : Inside = partly m (a .cylinder) x (savedBy a d) eight in
+    let f = run-fed fs p eight (began .sends) (began .grants) in
     let e : good (q .world .inside) ≡ good i
-    = ap insides (sym ran-fs) ∙ play-inside s fs (p .world) ∙ ap (λ (l : List ℕ). fed s l (p .world .inside)) fs-is
-    ∙ ap (fed s eight) (saved-inside s a d w es p ready save es-is ran-es)
-    ∙ part-fed s m (a .cylinder) x (savedBy a d) code ReadData (back .reads) (c1 ∷ a .id .c ∷ a .id .h ∷ a .id .r ∷ a .id .n ∷ eot ∷ gap ∷ []) (omega arith) in
+    = sym (f .inside) ∙ ap (fed (p .setting) eight) (saved-inside a d g es ready save made)
+    ∙ part-fed (p .setting) m (a .cylinder) x (savedBy a d) code ReadData (back .reads) (c1 ∷ a .id .c ∷ a .id .h ∷ a .id .r ∷ a .id .n ∷ eot ∷ gap ∷ []) (omega arith) in
     let inside-is : q .world .inside ≡ i = cc in
     let z : Sector = withContent (a .content) (save .sector) in
-    let sent-is = ap (λ (j : Inside). sent s j dtl) inside-is
-    ∙ last-sent s m (a .cylinder) x (savedBy a d) code c1 (a .id) eot gap dtl z (back .reads) (back .drive-0) (kept-read a d c1 eot save (back .same-head) (back .alone)) in
-    let front = serves (s .transfer) (contents (z ∷ [])) _ (leb (length (contents (z ∷ []))) (s .transfer)) (q .world) u′ dtl
-    (sym (ap (λ (y : Result Sent). after y (λ v. good (done (q .world) v))) sent-is) ∙ last) in
-    handed s gs u′ (a .content) (replyTo a c1 eot (save .sector)) r
+    let sent-is = ap (λ (j : Inside). sent (q .setting) j dtl) inside-is
+    ∙ last-sent (q .setting) m (a .cylinder) x (savedBy a d) code c1 (a .id) eot gap dtl z (back .reads) (back .drive-0) (kept-read a d c1 eot save (back .same-head) (back .alone)) in
+    let front = serves (q .setting .transfer) (contents (z ∷ [])) _ (leb (length (contents (z ∷ []))) (q .setting .transfer)) q dtl sent-is (last .grants) in
+    handed gs (run acted (send dtl ∷ []) q .end) (a .content) (replyTo a c1 eot (save .sector))
     (front .0 ∙ kept-bytes a d c1 eot save)
-    (front .1 ∙ last-reply s m (a .cylinder) x (savedBy a d) code c1 (a .id) eot gap dtl z (kept-long a d c1 eot save))
-    none-lost enough ran-gs
+    (front .1 ∙ last-reply (q .setting) m (a .cylinder) x (savedBy a d) code c1 (a .id) eot gap dtl z (kept-long a d c1 eot save))
+    none-lost (unfold replyTo in few)

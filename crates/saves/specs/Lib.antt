@@ -1,4 +1,2 @@
--- The words of demand 3: port calls and runs of them, saves, and the same calls as a host makes them.
-pub mod Events
+-- To be believed: the words of demand 3.
 pub mod Words
-pub mod Hosts
