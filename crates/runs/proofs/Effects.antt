@@ -204,7 +204,7 @@ transfer-kept x Seeking q = refl
 transfer-kept x (Interrupt c) q = refl
 transfer-kept x (Serve bytes z) q = served-kept x bytes (q .0)
 
-laid-kept : (d : List ℕ) (z : Disk) → byteCount z ≤ roomOf d → roomOf (over d 0 (dataOf z)) ≡ roomOf d
+pub laid-kept : (d : List ℕ) (z : Disk) → byteCount z ≤ roomOf d → roomOf (over d 0 (dataOf z)) ≡ roomOf d
 unfolding roomOf
 laid-kept d z h = ap (λ (n : ℕ). min n mostData) (over-length d 0 (dataOf z) (omega (arith, room-in d, h, data-length z)))
 

@@ -32,14 +32,17 @@ module _ (es : List Event) (k : Host) (s : Sound k) (g : Stage) (e : g ≡ stage
   run-is : run acted es g ≡ record { answers = run called es k .answers; end = stageOf (run called es k .end) }
   run-is = ap (run acted es) e ∙ calls-run es k s
 
-  end-is : run acted es g .end ≡ stageOf (run called es k .end)
+  pub end-is : run acted es g .end ≡ stageOf (run called es k .end)
   end-is = ap (λ (r : Run Answer Stage). r .end) run-is
 
-  answers-are : run acted es g .answers ≡ run called es k .answers
+  pub answers-are : run acted es g .answers ≡ run called es k .answers
   answers-are = ap (λ (r : Run Answer Stage). r .answers) run-is
 
-  made : (bytes : List ℕ) → Sends es bytes (run called es k .answers) → Sends es bytes (run acted es g .answers)
+  pub made : (bytes : List ℕ) → Sends es bytes (run called es k .answers) → Sends es bytes (run acted es g .answers)
   made bytes m = subst (Sends es bytes) (sym answers-are) m
+
+  pub made-back : (bytes : List ℕ) → Sends es bytes (run acted es g .answers) → Sends es bytes (run called es k .answers)
+  made-back bytes m = subst (Sends es bytes) answers-are m
 
   slot-is : (d : Disk) → inDrive (run acted es g .end .world) ≡ Holds (good d) → storeOf (run called es k .end) ≡ good d
   slot-is d q = store-is (run called es k .end) d (ap (λ (h : Stage). inDrive (h .world)) (sym end-is) ∙ q)

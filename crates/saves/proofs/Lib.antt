@@ -5,3 +5,4 @@ pub mod Feeding
 pub mod Demand
 pub mod ReadBack
 pub mod Gets
+pub mod Witness
