@@ -50,7 +50,7 @@ seek-few Running = refl
 seek-few Done = refl
 
 module _ (f : Floppy) (fits : Fitting (f .regs)) (long : length (f .held) ≡ mostHeld) where
-  image-formed : formed (floppyBytes f) ≡ true
+  pub image-formed : formed (floppyBytes f) ≡ true
   unfolding formed numbersFor
   image-formed =
       let n : length (numbersFor (f .regs) (f .held)) ≡ controllerLength = omega (arith, long) in

@@ -2,13 +2,14 @@
 use mathlib.Core.Path.{_≡_, refl, sym, subst, _∙_}
 use Prim.Native.Nat.{ℕ, zero, suc, _+_, _-_, _≤_, _<_}
 use native.Mathlib.Omega.{arith}
+use native.Mathlib.Nat.{mod-lt}
 use mathlib.Core.Bool.{Bool, true, false}
 use mathlib.Core.List.{List, [], _∷_, _++_}
 use lib.ListN.{length, getD, set, replicate, length-append, length-replicate, length-set}
 use lib.Dec.{eqb, ltb}
 use borrow.Author.Tests.{ltb-true, eqb-false, le-ltb, lt-leb}
 use Rattle.fields.specs.Model.{sizeOf}
-use Rattle.fields.proofs.Sizes.{size-pos}
+use Rattle.fields.proofs.Sizes.{size-pos, size-most}
 use Rattle.fields.proofs.Tests.{never}
 use Rattle.store.specs.Store.{transferRoom}
 use Rattle.codes.specs.Table.{commandOf, bytesFor}
@@ -41,12 +42,18 @@ pub record Unread (from until lost room : ℕ) : Type 0 where
   pub inside : until ≤ room
   pub few : lost ≤ 2
 
--- arrays as long as their types say, numbers that are possible, and unread data inside the transfer room
+-- the index and the fill of a write, as small as their types say
+pub record Small (index taken : ℕ) : Type 0 where
+  pub index-fits : index < 65536
+  pub taken-fits : taken < 65536
+
+-- arrays and numbers as their types say, numbers that are possible, and unread data inside the transfer room
 pub record Lawful (r : Regs) (room : ℕ) : Type 0 where
   pub command : Partly (r .command) (r .count)
   pub reply : Replying (r .reply) (r .place) (r .fill)
   pub unread : Unread (r .from) (r .until) (r .lost) room
   pub write : wrongWrite (r .write) ≡ false
+  pub small : Small (r .index) (r .write .taken)
 
 -- they are those that refusal 1 does not name
 pub lawful-so : (x : List ℕ) (r : Regs) → Lawful r (transferRoom x) → impossibleIn x r ≡ false
@@ -54,30 +61,32 @@ unfolding impossible impossibleIn
 lawful-so x r w =
     rw (le-ltb (r .fill) (r .place) (w .reply .read), le-ltb (r .until) (r .from) (w .unread .read), le-ltb 7 (r .fill) (w .reply .few), lt-leb (bytesFor (commandOf (getD (r .command) 0 0))) (r .count) (w .command .below), le-ltb 2 (r .lost) (w .unread .few), w .write, le-ltb (transferRoom x) (r .until) (w .unread .inside))
 
-pub so-lawful : (x : List ℕ) (r : Regs) → length (r .command) ≡ 9 → length (r .reply) ≡ 7 → impossibleIn x r ≡ false → Lawful r (transferRoom x)
-so-lawful x r nine seven e =
+pub so-lawful : (x : List ℕ) (r : Regs) → length (r .command) ≡ 9 → length (r .reply) ≡ 7 → Small (r .index) (r .write .taken) → impossibleIn x r ≡ false
+    → Lawful r (transferRoom x)
+so-lawful x r nine seven small e =
     let p = possible r (possible-in x r e) in
     record {
       command = record { nine = nine; below = p .count-in };
       reply = record { seven = seven; read = p .place-in; few = p .fill-in };
       unread = record { read = p .from-in; inside = until-in x r e; few = p .lost-in };
       write = p .write-in;
+      small = small;
     }
 
 -- and no smaller room is lent
 pub lawful-wider : (r : Regs) (n m : ℕ) → n ≤ m → Lawful r n → Lawful r m
-lawful-wider r n m h w = record { command = w .command; reply = w .reply; unread = record { read = w .unread .read; inside = omega (arith, h, w .unread .inside); few = w .unread .few }; write = w .write }
+lawful-wider r n m h w = record { command = w .command; reply = w .reply; unread = record { read = w .unread .read; inside = omega (arith, h, w .unread .inside); few = w .unread .few }; write = w .write; small = w .small }
 
 module _ (r : Regs) (room : ℕ) (w : Lawful r room) where
   -- ---- a status read: it stays, counts or drops
 
   kept-poll : (q : Poll) → (q ≡ Counts → r .lost < 2) → (q ≡ Drops → r .from < r .until) → Lawful (regsPolled q (sought (settled (r .drive .seek)) r)) room
   unfolding regsPolled
-  kept-poll Stays c d = record { command = w .command; reply = w .reply; unread = w .unread; write = w .write }
+  kept-poll Stays c d = record { command = w .command; reply = w .reply; unread = w .unread; write = w .write; small = w .small }
   kept-poll Counts c d =
-      record { command = w .command; reply = w .reply; unread = record { read = w .unread .read; inside = w .unread .inside; few = omega (arith, c refl) }; write = w .write }
+      record { command = w .command; reply = w .reply; unread = record { read = w .unread .read; inside = w .unread .inside; few = omega (arith, c refl) }; write = w .write; small = w .small }
   kept-poll Drops c d =
-      record { command = w .command; reply = w .reply; unread = record { read = omega (arith, d refl); inside = w .unread .inside; few = omega arith }; write = w .write }
+      record { command = w .command; reply = w .reply; unread = record { read = omega (arith, d refl); inside = w .unread .inside; few = omega arith }; write = w .write; small = w .small }
 
   counts-below : (on unread two : Bool) → eqb (r .lost) 2 ≡ two → pollBy on unread two ≡ Counts → r .lost < 2
   counts-below true unread two e q = never (cc)
@@ -102,15 +111,16 @@ module _ (r : Regs) (room : ℕ) (w : Lawful r room) where
   kept-source : (u v : Bool) → ltb (r .from) (r .until) ≡ u → ltb (r .place) (r .fill) ≡ v → Lawful (regsRead (sourceBy u v) r) room
   unfolding regsRead
   kept-source true v e f =
-      record { command = w .command; reply = w .reply; unread = record { read = omega (arith, ltb-true (r .from) (r .until) e); inside = w .unread .inside; few = omega arith }; write = w .write }
+      record { command = w .command; reply = w .reply; unread = record { read = omega (arith, ltb-true (r .from) (r .until) e); inside = w .unread .inside; few = omega arith }; write = w .write; small = w .small }
   kept-source false true e f = record {
     command = w .command;
     reply = record { seven = w .reply .seven; read = omega (arith, ltb-true (r .place) (r .fill) f); few = w .reply .few };
     unread = record { read = w .unread .read; inside = w .unread .inside; few = omega arith };
     write = w .write;
+    small = w .small;
   }
   kept-source false false e f =
-      record { command = w .command; reply = w .reply; unread = record { read = w .unread .read; inside = w .unread .inside; few = omega arith }; write = w .write }
+      record { command = w .command; reply = w .reply; unread = record { read = w .unread .read; inside = w .unread .inside; few = omega arith }; write = w .write; small = w .small }
 
   pub kept-read : Lawful (regsRead (sourceOf r) r) room
   kept-read = kept-source (ltb (r .from) (r .until)) (ltb (r .place) (r .fill)) refl refl
@@ -118,10 +128,10 @@ module _ (r : Regs) (room : ℕ) (w : Lawful r room) where
   -- ---- motor and disk
 
   pub kept-motor : (on : Bool) → Lawful (regsWithMotor on r) room
-  kept-motor on = record { command = w .command; reply = w .reply; unread = w .unread; write = w .write }
+  kept-motor on = record { command = w .command; reply = w .reply; unread = w .unread; write = w .write; small = w .small }
 
   pub kept-disk : (present : Bool) → Lawful (regsWithDrive (record { cylinder = r .drive .cylinder; seek = r .drive .seek; disk = present }) r) room
-  kept-disk present = record { command = w .command; reply = w .reply; unread = w .unread; write = w .write }
+  kept-disk present = record { command = w .command; reply = w .reply; unread = w .unread; write = w .write; small = w .small }
 
   -- ---- a byte of a command: part of it, or the last, with which its bytes are done with
 
@@ -145,6 +155,7 @@ module _ (r : Regs) (room : ℕ) (w : Lawful r room) where
     reply = w .reply;
     unread = w .unread;
     write = w .write;
+    small = w .small;
   }
 
   pub kept-last : (b : ℕ) → Lawful (regsChanged Clear (regsTaken (Add b) r)) room
@@ -156,6 +167,7 @@ module _ (r : Regs) (room : ℕ) (w : Lawful r room) where
     reply = w .reply;
     unread = w .unread;
     write = w .write;
+    small = w .small;
   }
 
   -- ---- a byte of a write: one that is held, or the last, with which the write is done with
@@ -166,10 +178,10 @@ module _ (r : Regs) (room : ℕ) (w : Lawful r room) where
 
   pub kept-held : (b : ℕ) → r .write .on ≡ true → r .write .taken + 1 < sizeOf (r .write .id .n) → Lawful (regsTaken (Hold b) r) room
   kept-held b on h =
-      record { command = w .command; reply = w .reply; unread = w .unread; write = held-right (r .write .on) (r .write) h (fitted-few (r .write) (w .write) on) }
+      record { command = w .command; reply = w .reply; unread = w .unread; write = held-right (r .write .on) (r .write) h (fitted-few (r .write) (w .write) on); small = record { index-fits = w .small .index-fits; taken-fits = omega (arith, h, size-most (r .write .id .n)) } }
 
   pub kept-ended : (b : ℕ) → Lawful (regsChanged Finish (regsTaken (Hold b) r)) room
-  kept-ended b = record { command = w .command; reply = w .reply; unread = w .unread; write = refl }
+  kept-ended b = record { command = w .command; reply = w .reply; unread = w .unread; write = refl; small = record { index-fits = w .small .index-fits; taken-fits = omega arith } }
 
 -- ---- changes that a command brings
 
@@ -192,12 +204,14 @@ module _ (room : ℕ) where
     reply = w .reply;
     unread = w .unread;
     write = w .write;
+    small = w .small;
   }
-  kept-change (MoveTo c) r f w = record { command = w .command; reply = w .reply; unread = w .unread; write = w .write }
-  kept-change Turn r f w = record { command = w .command; reply = w .reply; unread = w .unread; write = w .write }
+  kept-change (MoveTo c) r f w = record { command = w .command; reply = w .reply; unread = w .unread; write = w .write; small = w .small }
+  kept-change Turn r f w =
+      record { command = w .command; reply = w .reply; unread = w .unread; write = w .write; small = record { index-fits = mod-lt (r .index + 1) (omega arith); taken-fits = w .small .taken-fits } }
   kept-change (Start c1 id) r f w =
-      record { command = w .command; reply = w .reply; unread = w .unread; write = rw (lt-leb (sizeOf (id .n)) 0 (size-pos (id .n)), f) }
-  kept-change Finish r f w = record { command = w .command; reply = w .reply; unread = w .unread; write = refl }
+      record { command = w .command; reply = w .reply; unread = w .unread; write = rw (lt-leb (sizeOf (id .n)) 0 (size-pos (id .n)), f); small = record { index-fits = w .small .index-fits; taken-fits = omega arith } }
+  kept-change Finish r f w = record { command = w .command; reply = w .reply; unread = w .unread; write = refl; small = record { index-fits = w .small .index-fits; taken-fits = omega arith } }
 
   pub kept-changes : (xs : List Change) (r : Regs) → AllFair xs → Lawful r room → Lawful (regsAll xs r) room
   unfolding regsAll
@@ -219,10 +233,10 @@ module _ (room : ℕ) where
   padded bytes e = record { seven = simp (length-append, length-replicate) (omega arith); read = omega arith; few = e }
 
   kept-reply : (bytes : List ℕ) (r : Regs) → length bytes ≤ 7 → Lawful r room → Lawful (replied bytes r) room
-  kept-reply bytes r e w = record { command = w .command; reply = padded bytes e; unread = w .unread; write = w .write }
+  kept-reply bytes r e w = record { command = w .command; reply = padded bytes e; unread = w .unread; write = w .write; small = w .small }
 
   kept-sought : (s : Seek) (r : Regs) → Lawful r room → Lawful (sought s r) room
-  kept-sought s r w = record { command = w .command; reply = w .reply; unread = w .unread; write = w .write }
+  kept-sought s r w = record { command = w .command; reply = w .reply; unread = w .unread; write = w .write; small = w .small }
 
   pub kept-response : (x : Response) (r : Regs) → Short x → Lawful r room → Lawful (regsResponded x r) room
   unfolding regsResponded
@@ -241,4 +255,4 @@ module _ (room : ℕ) where
       go Running = unfold interruptedBy in kept-reply (0x20 ∷ c ∷ []) (sought Done r) (omega arith) (kept-sought Done r w)
       go Done = unfold interruptedBy in kept-reply (0x80 ∷ c ∷ []) r (omega arith) w
   kept-response (Serve bytes reply) r q w =
-      record { command = w .command; reply = padded reply (q .1); unread = record { read = omega arith; inside = q .0; few = w .unread .few }; write = w .write }
+      record { command = w .command; reply = padded reply (q .1); unread = record { read = omega arith; inside = q .0; few = w .unread .few }; write = w .write; small = w .small }

@@ -11,12 +11,7 @@ use lib.Dec.{eqb}
 use borrow.Author.Tests.{eqb-true, eqb-false}
 use Rattle.fields.proofs.Tests.{never}
 use Rattle.registers.specs.Boxes.{World}
-use Rattle.registers.specs.Ports.{on?, some?, polled, afterStatus}
-
--- so many status reads
-unfoldable pub polls : ℕ → World → World
-polls zero w = w
-polls (suc n) w = polls n (afterStatus w)
+use Rattle.registers.specs.Ports.{on?, some?, polled, afterStatus, polls}
 
 module _ (w : World) (idle : w .inside .write ≡ none) where
   off : on? (w .inside .write) ≡ false

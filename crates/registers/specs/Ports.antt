@@ -1,5 +1,5 @@
 -- What a status read, a data-port read and a change of motor or disk do (01, "Status and data ports").
-use Prim.Native.Nat.{ℕ, _+_}
+use Prim.Native.Nat.{ℕ, zero, suc, _+_}
 use mathlib.Core.Bool.{Bool, true, false}
 use mathlib.Core.List.{List, [], _∷_}
 use mathlib.Core.Option.{Option, none, some}
@@ -70,6 +70,11 @@ afterStatus w = record {
   inside = w .inside;
   front = settledIn (polled (pollBy (on? (w .inside .write)) (some? (w .front .unread)) (eqb (w .front .lost) 2)) (w .front));
 }
+
+-- so many status reads
+unfoldable pub polls : ℕ → World → World
+polls zero w = w
+polls (suc n) w = polls n (afterStatus w)
 
 -- ---- Data-port read
 

@@ -3,7 +3,6 @@ use mathlib.Core.Path.{_≡_, refl, sym, ap, _∙_}
 use mathlib.Core.Logic.{_↔_}
 use Prim.Native.Nat.{ℕ, zero, suc, _*_, _-_, _≤_}
 use native.Mathlib.Omega.{arith}
-use mathlib.Core.Bool.{Bool, false}
 use mathlib.Core.List.{List, [], _∷_, map-id}
 use mathlib.Core.Option.{none}
 use lib.ListN.{length, replicate, length-replicate}
@@ -13,14 +12,14 @@ use Rattle.fields.specs.declared.refusal.Refusal.the-variants.{BadController}
 use Rattle.store.specs.Store.{transferRoom}
 use Rattle.codes.specs.Table.{maskRows, rows, commandBy, commandOf}
 use Rattle.registers.specs.Boxes.{World}
-use Rattle.registers.specs.Ports.{afterStatus}
+use Rattle.registers.specs.Ports.{polls}
 use Rattle.registers.specs.View.{settingOf, frontOf, impossible, impossibleIn}
 use Rattle.registers.proofs.Numbers.{possible, possible-in}
-use Rattle.registers.proofs.Polls.{polls, polls-empty}
+use Rattle.registers.proofs.Polls.{polls-empty}
 use Rattle.floppy.specs.Calls.{newFloppy}
 use Rattle.floppy.proofs.Seen.{new-seen}
-use Rattle.runs.specs.Events.{Event, poll, Answer, denied, Run, run, Each}
-use Rattle.runs.specs.Stages.{Stage, newStage, acted}
+use Rattle.saves.specs.Events.{Event, poll, Answer, denied, Run, run, Each}
+use Rattle.saves.specs.Stages.{Stage, newStage, acted}
 use Rattle.runs.specs.Hosts.{Host, called, seen, stageOf, newHost, Sound}
 use Rattle.runs.proofs.Follows.{follows}
 use Rattle.runs.proofs.Steps.{agrees, tame}
@@ -50,7 +49,7 @@ module _ (t b x : List ℕ) where
   -- A new controller is one.
   pub new-sound : Sound (newHost t b x)
   unfolding newFloppy impossible impossibleIn commandOf commandBy rows maskRows
-  new-sound = record { nine = refl; seven = refl; held = length-replicate {A = ℕ} mostHeld 0; possible = le-ltb (transferRoom x) 0 (omega arith) }
+  new-sound = record { nine = refl; seven = refl; held = length-replicate {A = ℕ} mostHeld 0; index-fits = omega arith; taken-fits = omega arith; possible = le-ltb (transferRoom x) 0 (omega arith) }
 
   new-stage : newStage (settingOf b x) ≡ stageOf (newHost t b x)
   new-stage i = record { setting = settingOf b x; world = sym (new-seen t b x) i }

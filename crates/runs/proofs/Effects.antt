@@ -1,6 +1,6 @@
 -- What is true of the effect of every command and of every write that ends: its changes and its response keep possible numbers possible, what it
 -- lays fits the rooms that are lent, and where it refuses, it is not refusal 1.
-use mathlib.Core.Path.{_≡_, refl, sym, ap, subst, _∙_}
+use mathlib.Core.Path.{_≡_, refl, sym, ap, subst}
 use Prim.Native.Nat.{ℕ, _≤_, min}
 use native.Mathlib.Omega.{arith}
 use mathlib.Core.Bool.{Bool, true, false}
@@ -16,7 +16,7 @@ use Rattle.fields.specs.Refusals.{Result, refused, good, need, after}
 use Rattle.fields.specs.Model.{Sector, Disk, sectorCount, byteCount}
 use Rattle.fields.specs.declared.id.SectorId.{SectorId}
 use Rattle.fields.specs.declared.refusal.Refusal.{Refusal}
-use Rattle.fields.specs.declared.refusal.Refusal.the-variants.{BadController, BadStore, TooManyTracks, TooManySectors, NoRoom, NoTransferRoom}
+use Rattle.fields.specs.declared.refusal.Refusal.the-variants.{BadController, TooManyTracks, TooManySectors, NoRoom, NoTransferRoom}
 use Rattle.fields.proofs.Tests.{never}
 use Rattle.store.specs.Find.{Found, nothing, found}
 use Rattle.store.specs.Search.{sectorAt, sectorByIndex, readAt}
@@ -28,12 +28,12 @@ use Rattle.store.proofs.Rounds.{data-length}
 use Rattle.disk.specs.Change.{saved, setTrack}
 use Rattle.codes.specs.declared.command.Command.{Command}
 use Rattle.codes.specs.declared.command.Command.the-variants.{Specify, SenseDrive, Recalibrate, SenseInterrupt, SeekTo, Version, ReadData, ReadDeleted, WriteData, ReadId, FormatTrack, Unserved, Invalid}
-use Rattle.registers.specs.Boxes.{Setting, Slot, Empty, Holds, Bay, Drives, Writing, Named, fitted, namedIf, named, seven}
-use Rattle.registers.specs.Boxes.{Change, Finish, Response, Stay, Reply, ReplyIfNone, Seeking, Interrupt, Serve, Effect}
+use Rattle.registers.specs.Boxes.{Setting, Slot, Empty, Holds, Drives, Writing, Named, fitted, namedIf, named, seven}
+use Rattle.registers.specs.Boxes.{Finish, Response, Stay, Reply, ReplyIfNone, Seeking, Interrupt, Serve, Effect}
 use Rattle.registers.specs.View.{settingOf, slotIf}
 use Rattle.registers.proofs.Kept.{AllFair, Short}
 use Rattle.codes.specs.Second.{u, headOf}
-use Rattle.commands.specs.Commands.{byte, idOf, whenReady, does, puts, missing, senseIf, senseDrive, ready, seekIf, readReply, servedAs, readData, startAt, writeData, writeReply, saveAt, written, idGiven, readId, formatOf, formatTrack, obeyed}
+use Rattle.commands.specs.Commands.{byte, idOf, whenReady, does, puts, missing, senseIf, ready, seekIf, readReply, servedAs, readData, startAt, writeData, writeReply, saveAt, written, idGiven, readId, formatOf, formatTrack, obeyed}
 use Rattle.commands.specs.Lent.{dataWith, transferWith}
 
 -- ---- refusals

@@ -1,7 +1,7 @@
 -- Two ways to make a call that agree on every single one agree on every sequence of them.
 use mathlib.Core.Path.{_≡_, refl, ap, _∙_}
 use mathlib.Core.List.{List, [], _∷_, map}
-use Rattle.runs.specs.Events.{Event, Next, Run, run}
+use Rattle.saves.specs.Events.{Event, Next, Run, run}
 
 module _ {A B S T : Type 0} (step : Event → S → Next A S) (other : Event → T → Next B T) (f : A → B) (view : S → T) (Inv : S → Type 0)
     (one : (e : Event) (s : S) → Inv s → (other e (view s) ≡ record { answer = f (step e s .answer); then = view (step e s .then) }) × Inv (step e s .then)) where

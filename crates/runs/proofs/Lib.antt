@@ -1,5 +1,7 @@
--- Laws that more than one proof cites, and the theorems about sequences of calls.
+-- Laws that more than one proof cites, and the theorems about sequences of calls on a controller.
 pub mod Effects
 pub mod Follows
 pub mod Steps
 pub mod Any
+pub mod Gets
+pub mod Witness

@@ -6,8 +6,7 @@ use mathlib.Core.Bool.{Bool, true, false}
 use mathlib.Core.List.{List, [], _∷_, _++_}
 use lib.ListN.{length, getD, set, take, drop, length-append, length-take, length-set}
 use lib.Seq.{slice, take-append-le}
-use lib.Dec.{eqb}
-use borrow.Author.Tests.{eqb-true, eqb-false, eq-eqb}
+use borrow.Author.Tests.{eqb-false}
 use Rattle.fields.specs.Capacities.{mostHeld, mostTransfer}
 use Rattle.fields.specs.Refusals.{Result, refused, good, after}
 use Rattle.fields.specs.Model.{sizeOf}
@@ -20,33 +19,29 @@ use Rattle.store.proofs.Checks.{transfer-in}
 use Rattle.codes.specs.declared.command.Command.{Command}
 use Rattle.codes.specs.Table.{commandOf, bytesFor}
 use Rattle.registers.specs.declared.regs.Regs.{Regs}
-use Rattle.registers.specs.declared.regs.Told.{Told}
-use Rattle.registers.specs.declared.regs.Byte.{Byte}
 use Rattle.registers.specs.declared.regs.Byte.the-variants as byte
-use Rattle.registers.specs.declared.regs.Flag.{Flag}
-use Rattle.registers.specs.Boxes.{Setting, Inside, World, Taking, Add, Hold, Change, Clear, Finish, Stay, Effect, Sent, holding, named}
-use Rattle.registers.specs.Ports.{status, afterStatus, portByte, afterRead, setMotor, changeDisk}
-use Rattle.registers.specs.View.{settingOf, slotIf, slotOf, drivesOf, writingOf, insideOf, frontOf, worldOf, impossible, impossibleIn}
+use Rattle.registers.specs.Boxes.{Setting, Inside, World, Add, Hold, Change, Clear, Finish, Effect, Sent, named}
+use Rattle.registers.specs.View.{settingOf, slotOf, drivesOf, writingOf, insideOf, frontOf, impossibleIn}
 use Rattle.registers.specs.Settle.{regsTaken, heldTaken, regsChanged, regsAll, regsResponded, regsOf}
-use Rattle.registers.specs.Calls.{statusOf, afterStatusOf, statusRead, sourceOf, regsRead, dataRead, motorSet, diskSet}
+use Rattle.registers.specs.Calls.{statusRead, dataRead, motorSet, diskSet}
 use Rattle.registers.proofs.Numbers.{possible, possible-in, taken-few, count-few}
-use Rattle.registers.proofs.Kept.{Lawful, lawful-so, so-lawful, lawful-wider, AllFair, Short, kept-status, kept-read, kept-motor, kept-disk, kept-part, kept-last, kept-held, kept-ended, kept-changes, kept-response}
+use Rattle.registers.proofs.Kept.{Small, Lawful, lawful-so, so-lawful, lawful-wider, Short, kept-status, kept-read, kept-motor, kept-disk, kept-part, kept-last, kept-held, kept-ended, kept-changes, kept-response}
 use Rattle.registers.proofs.Seen.{status-seen, read-seen, motor-seen, disk-seen, motor-told, track-told}
-use Rattle.commands.specs.Commands.{byte as byteAt, obeyed, written}
+use Rattle.commands.specs.Commands.{obeyed, written}
 use Rattle.commands.specs.Lent.{tableWith, dataWith, transferWith, Left, leftOf}
 use Rattle.sending.specs.Machine.{sends, clearing, commandIf, commandByte, dataIf, dataByte, sent, done, writePort}
-use Rattle.sending.specs.Calls.{commandHere, dataHere, dataWrite}
+use Rattle.sending.specs.Calls.{dataWrite}
 use Rattle.sending.proofs.Sends.{all-first, all-length, sent-right, sent-data, sent-command}
 use Rattle.sending.proofs.Seen.{Sees, write-seen, disk-told}
 use Rattle.floppy.specs.Calls.{wroteAs}
-use Rattle.runs.specs.Events.{Question, motorOn?, whichTrack?, diskIn?, Event, poll, read, send, ask, switch, swap, widen, Answer, showed, gave, took, said, stood, denied, Next}
-use Rattle.runs.specs.Stages.{Stage, withWorld, sentOn, answerTo, widened, acted}
-use Rattle.runs.specs.Hosts.{Host, withFloppy, byteSaid, flagSaid, doneSaid, ifSwapped, afterWrote, askedIn, called, seen, lent, stageOf, Sound}
+use Rattle.saves.specs.Events.{Question, motorOn?, whichTrack?, diskIn?, Event, poll, read, send, ask, switch, swap, widen, Answer, showed, gave, took, stood, denied, Next}
+use Rattle.saves.specs.Stages.{Stage, sentOn, answerTo, acted}
+use Rattle.runs.specs.Hosts.{Host, withFloppy, withStore, withMore, byteSaid, flagSaid, doneSaid, ifSwapped, afterWrote, askedIn, called, seen, lent, stageOf, Sound}
 use Rattle.runs.proofs.Effects.{Tame, Clean, store-clean, Fits, Proper, obeyed-proper, Ends, written-ends, transfer-kept, room-kept}
 
 -- ---- what a byte sent keeps
 
-module _ (r : Regs) (b : ℕ) (h t d x : List ℕ) (ok : impossibleIn x r ≡ false) (nine : length (r .command) ≡ 9) (seven : length (r .reply) ≡ 7) (long : length h ≡ mostHeld) where
+module _ (r : Regs) (b : ℕ) (h t d x : List ℕ) (ok : impossibleIn x r ≡ false) (nine : length (r .command) ≡ 9) (seven : length (r .reply) ≡ 7) (small : Small (r .index) (r .write .taken)) (long : length h ≡ mostHeld) where
   abbrev S : Setting
   S = settingOf d x
 
@@ -54,7 +49,7 @@ module _ (r : Regs) (b : ℕ) (h t d x : List ℕ) (ok : impossibleIn x r ≡ fa
   Room = transferRoom x
 
   w : Lawful r Room
-  w = so-lawful x r nine seven ok
+  w = so-lawful x r nine seven small ok
 
   -- the registers then
   abbrev pub Regs′ : Sent → Regs
@@ -128,15 +123,29 @@ module _ (k : Host) (s : Sound k) where
   abbrev N : ℕ
   N = transferRoom (k .transfer)
 
+  small : Small (R .index) (R .write .taken)
+  small = record { index-fits = s .index-fits; taken-fits = s .taken-fits }
+
   lawful : Lawful R N
-  lawful = so-lawful (k .transfer) R (s .nine) (s .seven) (s .possible)
+  lawful = so-lawful (k .transfer) R (s .nine) (s .seven) small (s .possible)
+
+  -- a host with lawful registers and as many held bytes as there are is sound
+  sound-of : (j : Host) → length (j .floppy .held) ≡ mostHeld → Lawful (j .floppy .regs) (transferRoom (j .transfer)) → Sound j
+  sound-of j h w = record {
+    nine = w .command .nine;
+    seven = w .reply .seven;
+    held = h;
+    index-fits = w .small .index-fits;
+    taken-fits = w .small .taken-fits;
+    possible = lawful-so (j .transfer) (j .floppy .regs) w;
+  }
 
   -- the host with other registers, which are lawful, is sound
   abbrev With : Regs → Host
   With r = withFloppy (record { regs = r; held = H }) k
 
   sound-with : (r : Regs) → Lawful r N → Sound (With r)
-  sound-with r w = record { nine = w .command .nine; seven = w .reply .seven; held = s .held; possible = lawful-so (k .transfer) r w }
+  sound-with r w = sound-of (With r) (s .held) w
 
   -- the machine answers and leaves what the call does, seen; and the controller is one
   abbrev pub Agrees : Event → Type 0
@@ -200,10 +209,10 @@ module _ (k : Host) (s : Sound k) where
   unfolding acted called swapped
   swap-agrees present t b =
       let d = disk-seen R H (k .table) (k .bytes) (k .transfer) (s .possible) (s .nine) (s .seven) present t b in
-      let w = sound-with (diskSet present R .regs) (disk-lawful present) in (
+      let w = sound-of (withStore t b (With (diskSet present R .regs))) (s .held) (disk-lawful present) in (
         (λ i. record { answer = took; then = record { setting = settingOf b (k .transfer); world = sym (d .1) i } })
             ∙ (λ i. record { answer = doneSaid (sym (d .0) i); then = stageOf (swapped present t b (sym (d .0) i)) }),
-        subst (λ (a : Done). Sound (swapped present t b a)) (sym (d .0)) (record { nine = w .nine; seven = w .seven; held = w .held; possible = w .possible }),
+        subst (λ (a : Done). Sound (swapped present t b a)) (sym (d .0)) w,
       )
 
   -- ---- a longer transfer buffer
@@ -229,12 +238,7 @@ module _ (k : Host) (s : Sound k) where
       answer = took;
       then = record { setting = record { room = roomOf (k .bytes); transfer = sym (wider y) i }; world = record { inside = seen k .inside; front = same-front y i } };
     },
-    record {
-      nine = s .nine;
-      seven = s .seven;
-      held = s .held;
-      possible = lawful-so (k .transfer ++ y) R (lawful-wider R N (transferRoom (k .transfer ++ y)) (no-smaller y) lawful);
-    },
+    sound-of (withMore y k) (s .held) (lawful-wider R N (transferRoom (k .transfer ++ y)) (no-smaller y) lawful),
   )
 
   -- ---- a byte sent
@@ -276,7 +280,7 @@ module _ (k : Host) (s : Sound k) where
         z .1
 
     abbrev KeepsAs : Result Sent → Type 0
-    KeepsAs = Keeps R b H (k .table) (k .bytes) (k .transfer) (s .possible) (s .nine) (s .seven) (s .held)
+    KeepsAs = Keeps R b H (k .table) (k .bytes) (k .transfer) (s .possible) (s .nine) (s .seven) small (s .held)
 
     -- the rooms are those that were lent
     then-lent : (y : Sent) → KeepsAs (good y) → lent (Then y) ≡ lent k
@@ -285,8 +289,8 @@ module _ (k : Host) (s : Sound k) where
 
     then-sound : (y : Sent) → KeepsAs (good y) → Sound (Then y)
     then-sound y q =
-        let w = subst (λ (n : ℕ). Lawful (Then y .floppy .regs) n) (sym (transfer-kept (k .transfer) (y .effect .response) (q .1 .1 .0))) (q .0) in
-        record { nine = w .command .nine; seven = w .reply .seven; held = q .1 .0; possible = lawful-so (Then y .transfer) (Then y .floppy .regs) w }
+        sound-of (Then y) (q .1 .0)
+        (subst (λ (n : ℕ). Lawful (Then y .floppy .regs) n) (sym (transfer-kept (k .transfer) (y .effect .response) (q .1 .1 .0))) (q .0))
 
     -- what the call and the machine leave, by what the byte does
     abbrev CalledAs : Left → Next Answer Host
@@ -302,7 +306,7 @@ module _ (k : Host) (s : Sound k) where
     unfolding acted called
     send-agrees =
         let y : Result Sent = sent (lent k) I b in
-        let z = send-go y refl (sent-keeps R b H (k .table) (k .bytes) (k .transfer) (s .possible) (s .nine) (s .seven) (s .held)) in (
+        let z = send-go y refl (sent-keeps R b H (k .table) (k .bytes) (k .transfer) (s .possible) (s .nine) (s .seven) small (s .held)) in (
           ap (sentOn (stageOf k)) (port-as y refl) ∙ z .0
               ∙ ap (λ (l : Left). record { answer = CalledAs l .answer; then = stageOf (CalledAs l .then) }) (sym (write-as y refl)),
           subst (λ (l : Left). Sound (CalledAs l .then)) (sym (write-as y refl)) (z .1),
@@ -317,7 +321,7 @@ module _ (k : Host) (s : Sound k) where
     unfolding acted
     send-tame e =
         let y : Result Sent = sent (lent k) I b in
-        sent-tame y (sent-keeps R b H (k .table) (k .bytes) (k .transfer) (s .possible) (s .nine) (s .seven) (s .held))
+        sent-tame y (sent-keeps R b H (k .table) (k .bytes) (k .transfer) (s .possible) (s .nine) (s .seven) small (s .held))
         (sym (ap (λ (z : Result World). sentOn (stageOf k) z .answer) (port-as y refl)) ∙ e)
 
   acted-tame : (e : Event) → acted e (stageOf k) .answer ≡ denied BadController → ⊥

@@ -1,8 +1,8 @@
 -- The same calls as a host makes them: on a controller, with table, data and transfer buffer lent. Each call is what its promise says
 -- (`crates/floppy/src/lib.rt`).
 use mathlib.Core.Path.{_≡_}
-use Prim.Native.Nat.{ℕ}
-use mathlib.Core.Bool.{Bool, false}
+use Prim.Native.Nat.{ℕ, _<_}
+use mathlib.Core.Bool.{false}
 use mathlib.Core.List.{List, _++_}
 use lib.ListN.{length}
 use Rattle.fields.specs.Capacities.{mostHeld}
@@ -25,9 +25,9 @@ use Rattle.floppy.specs.declared.Floppy.{Floppy}
 use Rattle.floppy.specs.declared.Shown.{Shown}
 use Rattle.floppy.specs.declared.Changed.{Changed}
 use Rattle.floppy.specs.Calls.{newFloppy, changedAs, Wrote, wrote, statusCall, readCall, writeCall}
-use Rattle.runs.specs.Events.{Question, motorOn?, whichTrack?, diskIn?, Event, poll, read, send, ask, switch, swap, widen}
-use Rattle.runs.specs.Events.{Answer, showed, gave, took, said, stood, denied, Next}
-use Rattle.runs.specs.Stages.{Stage}
+use Rattle.saves.specs.Events.{Question, motorOn?, whichTrack?, diskIn?, Event, poll, read, send, ask, switch, swap, widen}
+use Rattle.saves.specs.Events.{Answer, showed, gave, took, said, stood, denied, Next}
+use Rattle.saves.specs.Stages.{Stage}
 
 -- what a host has: the controller and the three lent buffers
 pub record Host : Type 0 where
@@ -121,9 +121,12 @@ storeOf k = diskOf (k .table) (k .bytes)
 abbrev pub newHost : List ℕ → List ℕ → List ℕ → Host
 newHost t b x = record { floppy = newFloppy; table = t; bytes = b; transfer = x }
 
--- a controller that is one: its arrays are as long as their types say, and its numbers possible in the transfer buffer that is lent
+-- a controller that is one: its arrays are as long, and its index and the fill of its write as small, as their types say; and its numbers are
+-- possible in the transfer buffer that is lent
 pub record Sound (k : Host) : Type 0 where
   pub nine : length (k .floppy .regs .command) ≡ 9
   pub seven : length (k .floppy .regs .reply) ≡ 7
   pub held : length (k .floppy .held) ≡ mostHeld
+  pub index-fits : k .floppy .regs .index < 65536
+  pub taken-fits : k .floppy .regs .write .taken < 65536
   pub possible : impossibleIn (k .transfer) (k .floppy .regs) ≡ false

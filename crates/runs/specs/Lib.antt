@@ -1,4 +1,2 @@
--- To be believed: calls and what they answer, a sequence of them, the same calls on the machine and on a controller with lent buffers.
-pub mod Events
-pub mod Stages
+-- To be believed: the same calls as a host makes them, on a controller with lent buffers.
 pub mod Hosts

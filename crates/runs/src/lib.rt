@@ -1,1 +1,2 @@
-// Sequences of calls: what holds over any of them, from a new controller on. Statements in `specs/`, theorems in `proofs/`; there is no code here.
+// Sequences of calls on a controller: they are the machine's, so what is proved of it holds of them. Statements in `specs/`, theorems in `proofs/`;
+// there is no code here.

@@ -22,8 +22,8 @@ use Rattle.registers.specs.Boxes.{Setting, Holds, Inside, World, named, Finish,
 use Rattle.codes.specs.Table.{commandOf, commandBy, rows}
 use Rattle.codes.specs.Second.{driveOf, headOf}
 use Rattle.commands.specs.Commands.{puts, seekIf, startAt, writeData, writeReply, saveAt, written, obeyed}
-use Rattle.runs.specs.Events.{Event, run}
-use Rattle.runs.specs.Stages.{Stage, acted}
+use Rattle.saves.specs.Events.{Event, run}
+use Rattle.saves.specs.Stages.{Stage, acted}
 use Rattle.saves.specs.Words.{inDrive, Ready, Address, Save, bytesOf, addressOf, IsSave, savedAt, savedBy, Sends, Only}
 use Rattle.saves.proofs.Finds.{mapFound}
 use Rattle.saves.proofs.Places.{at, save-twice, save-found, save-other, save-comm, save-only}

@@ -18,8 +18,8 @@ use Rattle.registers.specs.Ports.{afterStatus, afterRead}
 use Rattle.commands.specs.Commands.{byte, obeyed, written}
 use Rattle.sending.specs.Machine.{sends, clearing, commandIf, commandByte, dataIf, dataByte, byteFor, sent, done, writePort}
 use Rattle.fields.proofs.Tests.{never}
-use Rattle.runs.specs.Events.{Question, motorOn?, whichTrack?, diskIn?, Event, poll, read, send, ask, switch, swap, widen, Answer, took, Next, run, granted}
-use Rattle.runs.specs.Stages.{Stage, withWorld, sentOn, answerTo, acted}
+use Rattle.saves.specs.Events.{Question, motorOn?, whichTrack?, diskIn?, Event, poll, read, send, ask, switch, swap, widen, Answer, took, Next, run, granted}
+use Rattle.saves.specs.Stages.{Stage, withWorld, sentOn, answerTo, acted}
 use Rattle.saves.specs.Words.{firstOf, sentIn}
 
 -- ---- a byte, inside

@@ -4,5 +4,4 @@ pub mod Places
 pub mod Feeding
 pub mod Demand
 pub mod ReadBack
-pub mod Gets
 pub mod Witness

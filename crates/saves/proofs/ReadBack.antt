@@ -4,12 +4,11 @@ use Prim.Native.Nat.{ℕ, suc, _+_, _-_, _≤_}
 use native.Mathlib.Omega.{arith}
 use mathlib.Core.Bool.{Bool, true, false}
 use mathlib.Core.List.{List, [], _∷_, _++_, append-nil}
-use mathlib.Core.Option.{none}
 use lib.ListN.{length, take}
 use lib.Dec.{leb}
 use borrow.Author.Tests.{eq-eqb}
 use Rattle.fields.specs.Bytes.{withBit}
-use Rattle.fields.specs.Refusals.{Result, refused, good, need, after}
+use Rattle.fields.specs.Refusals.{Result, good, need, after}
 use Rattle.fields.specs.Model.{sizeOf, total, Sector, Track, Disk}
 use Rattle.fields.specs.declared.id.SectorId.{SectorId}
 use Rattle.fields.specs.declared.refusal.Refusal.the-variants.{NoTransferRoom}
@@ -20,14 +19,14 @@ use Rattle.store.specs.Store.{contents}
 use Rattle.disk.specs.Change.{withContent}
 use Rattle.disk.specs.Calls.{endOf}
 use Rattle.codes.specs.declared.command.Command.the-variants.{ReadData}
-use Rattle.registers.specs.Boxes.{Setting, Inside, Front, World, Add, Clear, Serve, Sent, responded}
+use Rattle.registers.specs.Boxes.{Setting, Inside, Front, World, Add, Serve, Sent, responded}
 use Rattle.codes.specs.Table.{commandOf}
 use Rattle.registers.specs.Ports.{polled, Poll, Stays, Counts, Drops, afterStatus, given, readFrom, portByte, afterRead}
 use Rattle.codes.specs.Second.{u, driveOf, headOf}
 use Rattle.commands.specs.Commands.{does, markOf, sizesOf, readReply, servedAs, readData, obeyed}
 use Rattle.sending.specs.Machine.{sends, clearing, commandIf, commandByte, byteFor, sent, done, writePort}
-use Rattle.runs.specs.Events.{Question, motorOn?, whichTrack?, diskIn?, Event, poll, read, send, ask, switch, swap, widen, Answer, Next, run, granted}
-use Rattle.runs.specs.Stages.{Stage, sentOn, answerTo, acted}
+use Rattle.saves.specs.Events.{Question, motorOn?, whichTrack?, diskIn?, Event, poll, read, send, ask, switch, swap, widen, Answer, Next, run, granted}
+use Rattle.saves.specs.Stages.{Stage, sentOn, answerTo, acted}
 use Rattle.saves.specs.Words.{Ready, Save, bytesOf, addressOf, IsSave, savedBy, Sends, ReadsBack, readBytes, replyTo, LosesNone, dataReads, givenIn}
 use Rattle.saves.proofs.Finds.{mapFound}
 use Rattle.saves.proofs.Places.{save-found, save-only}

@@ -17,7 +17,7 @@ use Rattle.registers.specs.Boxes.{Slot, Holds, World}
 use Rattle.codes.specs.Table.{commandOf}
 use Rattle.registers.specs.Ports.{afterStatus, afterRead}
 use Rattle.codes.specs.Second.{u, driveOf, headOf}
-use Rattle.runs.specs.Events.{Event, poll, read, send, ask, switch, swap, widen, Answer, showed, gave, took, said, stood, denied, granted}
+use Rattle.saves.specs.Events.{Event, poll, read, send, ask, switch, swap, widen, Answer, showed, gave, took, said, stood, denied, granted}
 
 -- what is in drive 0
 abbrev pub inDrive : World → Slot

@@ -1,6 +1,5 @@
 -- Sequences of calls on the machine.
 use Prim.Native.Nat.{ℕ, _+_, min}
-use mathlib.Core.Bool.{Bool}
 use mathlib.Core.List.{List}
 use lib.ListN.{length}
 use Rattle.fields.specs.Capacities.{mostTransfer}
@@ -11,8 +10,8 @@ use Rattle.registers.specs.Ports.{status, afterStatus, portByte, afterRead, set
 use Rattle.registers.specs.View.{slotIf}
 use Rattle.commands.specs.Commands.{ready}
 use Rattle.sending.specs.Machine.{writePort}
-use Rattle.runs.specs.Events.{Question, motorOn?, whichTrack?, diskIn?, Event, poll, read, send, ask, switch, swap, widen}
-use Rattle.runs.specs.Events.{Answer, showed, gave, took, said, stood, denied, Next}
+use Rattle.saves.specs.Events.{Question, motorOn?, whichTrack?, diskIn?, Event, poll, read, send, ask, switch, swap, widen}
+use Rattle.saves.specs.Events.{Answer, showed, gave, took, said, stood, denied, Next}
 
 -- the rooms that are lent, and the boxes
 pub record Stage : Type 0 where

@@ -7,15 +7,15 @@ use lib.ListN.{length, take}
 use Rattle.fields.specs.Refusals.{Result, good}
 use Rattle.fields.specs.Model.{Disk}
 use Rattle.fields.proofs.Tests.{never}
-use Rattle.registers.specs.Boxes.{Holds, World}
+use Rattle.registers.specs.Boxes.{Holds}
 use Rattle.registers.specs.View.{slotIf, insideOf}
-use Rattle.runs.specs.Events.{Event, send, Answer, Run, run}
-use Rattle.runs.specs.Stages.{Stage, acted}
+use Rattle.saves.specs.Events.{Event, send, Answer, Run, run}
+use Rattle.saves.specs.Stages.{Stage, acted}
 use Rattle.runs.specs.Hosts.{Host, called, seen, stageOf, storeOf, Sound}
 use Rattle.runs.proofs.Any.{calls-run, calls-sound}
 use Rattle.saves.specs.Words.{inDrive, Ready, Save, bytesOf, addressOf, IsSave, savedBy, Sends, Only, ReadsBack, readBytes, replyTo, LosesNone, dataReads, givenIn}
 use Rattle.saves.proofs.Demand.{save-touches, still-other, second-alone, either-order}
 use Rattle.saves.proofs.ReadBack.{read-back}
 
 -- ---- from calls to the machine
 
