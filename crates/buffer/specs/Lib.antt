@@ -1,3 +1,3 @@
--- The definitions that a reader must believe.
+-- To be believed: what a change of a slice leaves, and what a comparison of two answers.
 pub mod Over
 pub mod Same

@@ -1,3 +1,3 @@
--- The definitions that a reader must believe: the table of commands, and what their second byte names.
+-- To be believed: the table of commands, and what their second byte names.
 pub mod Table
 pub mod Second

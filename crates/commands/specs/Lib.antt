@@ -1,4 +1,4 @@
--- `Commands` is for a reader to believe: what each command does. The boxes and the table of commands stand in `registers` and `codes`.
--- Behind it, `Lent`: what an effect leaves of the bytes that are lent.
+-- To be believed: what each command does, and what that leaves of the bytes that are lent. The boxes and the table of commands stand in `registers`
+-- and `codes`.
 pub mod Commands
 pub mod Lent

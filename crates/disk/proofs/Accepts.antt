@@ -1,5 +1,5 @@
 -- Every store that a successful change leaves is accepted, and holds the disk that the change makes.
-use mathlib.Core.Path.{_≡_, refl, sym, ap}
+use mathlib.Core.Path.{_≡_, refl, ap, _∙_}
 use Prim.Native.Nat.{ℕ, _+_, _≤_}
 use native.Mathlib.Omega.{arith}
 use mathlib.Core.Bool.{Bool, true, false, cond}
@@ -8,16 +8,21 @@ use lib.ListN.{length}
 use lib.Dec.{leb}
 use borrow.Author.Tests.{leb-true}
 use Rattle.buffer.specs.Over.{over}
-use Rattle.fields.specs.Refusals.{Result, good, need}
-use Rattle.fields.specs.Model.{Track, Disk, total, sectorCount, byteCount}
+use Rattle.fields.specs.Refusals.{Result, refused, good, need, after}
+use Rattle.fields.specs.Model.{Sector, Track, Disk, total, sectorCount, byteCount}
 use Rattle.fields.specs.declared.id.SectorId.{SectorId}
-use Rattle.fields.specs.declared.refusal.Refusal.{Refusal}
+use Rattle.fields.specs.declared.refusal.Refusal.the-variants.{NoRoom}
 use Rattle.fields.proofs.Tests.{never}
 use Rattle.store.specs.Store.{roomOf, tableOf, dataOf, diskOf}
-use Rattle.store.specs.Search.{isTrack, isSector}
-use Rattle.store.specs.Calls.{within, fitting}
+use Rattle.store.specs.Find.{Found, nothing, found}
+use Rattle.store.specs.Search.{isTrack, isSector, sectorAt}
+use Rattle.store.specs.Calls.{outcome, laidAs, laid, fitting}
+use Rattle.store.specs.declared.answer.Done.the-variants as done
 use Rattle.store.proofs.Rounds.{laid-back}
-use Rattle.disk.specs.Change.{change, withContent, savedIn, saved}
+use Rattle.store.proofs.Leaves.{fitting-accepted, fitting-left}
+use Rattle.disk.specs.Change.{change, withContent, savedIn, saved, setTrack}
+use Rattle.disk.specs.Calls.{setOf, saveFound, saveIn, saveOf}
+use Rattle.disk.specs.declared.answer.Saved.the-variants as saving
 use Rattle.disk.proofs.Holds.{fits}
 use Rattle.disk.proofs.Cuts.{change-length}
 
@@ -43,33 +48,11 @@ module _ (side cylinder : ℕ) (id : SectorId) (new : List ℕ) (d : Disk) where
   saved-sectors =
       change-total (λ (t : Track). length (t .sectors)) (isTrack side cylinder) (savedIn id new) (λ t. change-length (isSector id) (withContent new) (t .sectors)) d
 
--- ---- what the capacities allow
-
-need-good : {A : Type 0} (v : Bool) (why : Refusal) (next : Result A) (a : A) → need v why next ≡ good a → (v ≡ true) × (next ≡ good a)
-need-good true why next a e = (refl, e)
-need-good false why next a e = never (cc)
-
-pub record Allowed (room : ℕ) (d : Disk) : Type 0 where
-  pub tracks : length d ≤ 204
-  pub sectors : sectorCount d ≤ 2048
-  pub bytes : byteCount d ≤ room
-
-pub fitting-good : (room : ℕ) (d new : Disk) → fitting room d ≡ good new → (d ≡ new) × Allowed room d
-unfolding within
-fitting-good room d new e =
-    let a = need-good (leb (length d) 204) _ _ new e in
-    let b = need-good (leb (sectorCount d) 2048) _ _ new (a .1) in
-    let c = need-good (leb (byteCount d) room) _ _ new (b .1) in
-    (cc (c .1), record { tracks = leb-true _ _ (a .0); sectors = leb-true _ _ (b .0); bytes = leb-true _ _ (c .0) })
-
 -- ---- so the store is accepted
 
 module _ (t b : List ℕ) (d : Disk) (e : diskOf t b ≡ good d) where
   pub format-accepted : (made new : Disk) → fitting (roomOf b) made ≡ good new → diskOf (over t 0 (tableOf new)) (over b 0 (dataOf new)) ≡ good new
-  format-accepted made new f =
-      let w = fitting-good (roomOf b) made new f in
-      let s = w .1 in
-      rw (sym (w .0)) (laid-back t b made (fits t b d e .long) (s .tracks) (s .sectors) (s .bytes))
+  format-accepted made new f = fitting-accepted t b (fits t b d e .long) made new f
 
   pub save-accepted : (side cylinder : ℕ) (id : SectorId) (new : List ℕ) → byteCount (saved side cylinder id new d) ≤ roomOf b
       → diskOf (over t 0 (tableOf (saved side cylinder id new d))) (over b 0 (dataOf (saved side cylinder id new d))) ≡ good (saved side cylinder id new d)
@@ -79,3 +62,50 @@ module _ (t b : List ℕ) (d : Disk) (e : diskOf t b ≡ good d) where
       (omega (arith, saved-tracks side cylinder id new d, f .tracks))
       (omega (arith, saved-sectors side cylinder id new d, f .sectors))
       h
+
+-- ---- what a call leaves
+
+-- a store that held a disk, and holds it changed now
+pub record Altered (f : Disk → Disk) (t b t′ b′ : List ℕ) : Type 0 where
+  pub before : Disk
+  pub held : diskOf t b ≡ good before
+  pub holds : diskOf t′ b′ ≡ good (f before)
+
+-- so of a store whose disk is known
+pub altered-is : (f : Disk → Disk) (t b t′ b′ : List ℕ) (d : Disk) → diskOf t b ≡ good d → Altered f t b t′ b′ → diskOf t′ b′ ≡ good (f d)
+altered-is f t b t′ b′ d e a =
+    let p : a .before ≡ d = cc in
+    a .holds ∙ ap (λ (x : Disk). good (f x)) p
+
+module _ (t b t′ b′ : List ℕ) where
+  -- A format that succeeds: the store was accepted, and the one that is left is accepted and holds the same disk with the track set.
+  pub set-left : (side cylinder : ℕ) (new : Track) → setOf side cylinder new t b ≡ outcome done.Good t′ b′ → Altered (setTrack side cylinder new) t b t′ b′
+  unfolding setOf
+  set-left side cylinder new e = told (diskOf t b) refl e
+    where
+      told : (r : Result Disk) → diskOf t b ≡ r → laid t b (after r (λ d. fitting (roomOf b) (setTrack side cylinder new d))) ≡ outcome done.Good t′ b′
+          → Altered (setTrack side cylinder new) t b t′ b′
+      told (refused why) h q = never (cc)
+      told (good d) h q = record { before = d; held = h; holds = fitting-left t b (fits t b d h .long) (setTrack side cylinder new d) t′ b′ q }
+
+  -- A save that is done: the store was accepted, and the one that is left is accepted and holds the same disk with the sector saved.
+  pub save-left : (side cylinder : ℕ) (id : SectorId) (new : List ℕ) → saveOf t b side cylinder id new ≡ outcome saving.Good t′ b′
+      → Altered (saved side cylinder id new) t b t′ b′
+  unfolding saveOf
+  save-left side cylinder id new e = told (diskOf t b) refl e
+    where
+      put : (d : Disk) → diskOf t b ≡ good d → (u v : Bool) → leb (byteCount (saved side cylinder id new d)) (roomOf b) ≡ v
+          → laidAs saving.Refused saving.Good t b (need u NoRoom (need v NoRoom (good (saved side cylinder id new d)))) ≡ outcome saving.Good t′ b′
+          → Altered (saved side cylinder id new) t b t′ b′
+      put d h true true r q = record { before = d; held = h; holds = cc (save-accepted t b d h side cylinder id new (leb-true _ _ r)) }
+      put d h true false r q = never (cc)
+      put d h false v r q = never (cc)
+
+      found? : (d : Disk) → diskOf t b ≡ good d → (s : Found Sector) → saveFound t b (length new) (saved side cylinder id new d) s ≡ outcome saving.Good t′ b′
+          → Altered (saved side cylinder id new) t b t′ b′
+      found? d h nothing q = never (cc)
+      found? d h (found i s) q = put d h (leb (length new) 65535) (leb (byteCount (saved side cylinder id new d)) (roomOf b)) refl q
+
+      told : (r : Result Disk) → diskOf t b ≡ r → saveIn t b side cylinder id new r ≡ outcome saving.Good t′ b′ → Altered (saved side cylinder id new) t b t′ b′
+      told (refused why) h q = never (cc)
+      told (good d) h q = found? d h (sectorAt d side cylinder id) q

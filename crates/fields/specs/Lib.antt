@@ -1,5 +1,4 @@
--- The definitions that a reader must believe, in the order in which they build on each other: the refusals, the capacities, bytes and numbers
--- by place, a disk.
+-- To be believed: the refusals, the capacities, bytes and numbers by place, a disk. They stand in the order in which they build on each other.
 pub mod Refusals
 pub mod Capacities
 pub mod Bytes

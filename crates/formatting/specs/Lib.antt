@@ -1,2 +1,3 @@
--- What the private calls say. A reader of the promises need not read this page.
+-- To be believed: no page here; `Change` and `Calls` of `disk` say what `set_track` answers and leaves, and `Commands` which track a Format sets.
+-- Not needed for that: what the private calls say. `askedFor` is the track that `set_track` is asked for; no host calls it.
 pub mod Sets

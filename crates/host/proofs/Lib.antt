@@ -1,3 +1,5 @@
--- Laws that more than one proof cites, and the theorem that the exported calls are the calls by value.
+-- Laws that more than one proof cites; that the exported calls are the calls by value; what `disk_sector` names; what each promise settles.
 pub mod Answers
 pub mod Same
+pub mod Parts
+pub mod Settled

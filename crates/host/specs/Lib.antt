@@ -1,3 +1,2 @@
--- The definition that a reader must believe: what each exported call answers and leaves. `layout` says which bytes a controller is, `words` what the
--- answer word is.
+-- To be believed: what each exported call answers and leaves. `layout` says which bytes a controller is, `words` what the answer word is.
 pub mod Calls

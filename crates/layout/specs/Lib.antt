@@ -1,2 +1,2 @@
--- The definition that a reader must believe: which bytes a controller is.
+-- To be believed: which bytes a controller is.
 pub mod Layout

@@ -1,3 +1,4 @@
--- `Text` is what the listing program prints, and all that a reader has to believe.
+-- To be believed: what the listing program prints.
 pub mod Text
+-- Not needed for that: what the private calls say, line by line.
 pub mod Lines

@@ -1,3 +1,4 @@
--- Laws that more than one proof cites, and those that the crates above use.
+-- Laws that more than one proof cites, and the theorems that what a load and a fresh format leave is accepted.
 pub mod Lays
 pub mod Loads
+pub mod Left

@@ -1,8 +1,10 @@
--- Up to `Ports`, definitions that a reader must believe: the boxes, and what port reads do.
--- The table of commands stands in `codes`.
--- Behind it, the same on the controller's numbers: `View` says which boxes they are, `Settle` and `Calls` what each change and call leaves.
+-- To be believed: the boxes, what port reads do, and which boxes the controller's numbers are, with those that are refusal 1. The table of commands
+-- stands in `codes`.
 pub mod Boxes
 pub mod Ports
 pub mod View
+-- Not needed for that: what each change leaves of the numbers, dead bytes too; seen as boxes it is what `Boxes` says (`write-seen` of `sending`).
+-- `declined` is a refusal, with the registers as they came.
 pub mod Settle
+-- To be believed: which call gives refusal 1 for which numbers. What it says of the others is, seen as boxes, what `Ports` says (`proofs/Seen.antt`).
 pub mod Calls

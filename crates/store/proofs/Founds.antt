@@ -14,7 +14,7 @@ use Rattle.fields.specs.Model.{Sector, Track, Disk}
 use Rattle.tracks.specs.Block.{rowAt, sectorOf}
 use Rattle.fields.specs.declared.id.SectorId.{SectorId}
 use Rattle.fields.specs.declared.refusal.Refusal.the-variants.{BadStore}
-use Rattle.fields.proofs.Tests.{never}
+use Rattle.fields.proofs.Tests.{never, one-outcome}
 use Rattle.store.specs.Find.{Found, nothing, found, findFrom, headFrom, nth}
 use Rattle.store.specs.Search.{isTrack, isSector, inTrack, sectorAt, byIndex, greatest, isSide0}
 use Rattle.store.specs.Calls.{contentOf, lookupOf, foundOf, hasOf, geometryOf}
@@ -224,6 +224,10 @@ module _ (t b : List ℕ) (side cylinder : ℕ) (id : SectorId) where
           → Located t b side cylinder id (cond v (placeAt t (storeSpot t side cylinder id)) (place.Refused BadStore))
       told true q = located-at q (storeSpot t side cylinder id) refl
       told false q = record { says = rw (disk-bad t b q); within = tt }
+
+  -- Any two answers that the promise of `locate` allows are equal.
+  pub locate-settled : (r r′ : Place) → r ≡ placeOf t b side cylinder id → r′ ≡ placeOf t b side cylinder id → r ≡ r′
+  locate-settled r r′ = one-outcome r r′ (placeOf t b side cylinder id)
 
 -- ---- what it says to a caller that took its answer apart
 

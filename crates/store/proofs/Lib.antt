@@ -4,4 +4,5 @@ pub mod Checks
 pub mod Walks
 pub mod Founds
 pub mod Rounds
+pub mod Leaves
 pub mod Indexes

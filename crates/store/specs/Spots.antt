@@ -1,4 +1,4 @@
--- What the private calls and those that are lent to the crates above answer, by place. A reader of the promises need not read this page.
+-- What the private calls and those that are lent to the crates above answer, by place. The last part, where a sector stands, is what `disk_sector` goes by.
 use Prim.Native.Nat.{ℕ, zero, suc, _+_, _*_, _%_, _≤_, max}
 use mathlib.Core.List.{List}
 use mathlib.Core.Bool.{Bool, _&&_, cond}

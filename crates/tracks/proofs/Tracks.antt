@@ -19,7 +19,7 @@ use Rattle.tracks.specs.declared.track.Head.{Head}
 use Rattle.tracks.specs.declared.track.Block.{Block}
 use Rattle.tracks.specs.declared.track.Block.the-variants as block
 use Rattle.fields.proofs.Readers.{told}
-use Rattle.fields.proofs.Tests.{never}
+use Rattle.fields.proofs.Tests.{never, need-good}
 
 -- a step of a definition that counts down, said of k above 0 and k - 1
 pub down : (P : ℕ → ℕ → Type 0) → ((k : ℕ) → P (suc k) k) → (k : ℕ) → 0 < k → P k (k - 1)
@@ -157,10 +157,6 @@ module _ (kind : Kind) (b : List ℕ) where
       there next false q e = never (cc)
 
 -- ---- a track that was read as good
-
-need-good : {A : Type 0} (t : Bool) (why : Refusal) (next : Result A) (a : A) → need t why next ≡ good a → (t ≡ true) × (next ≡ good a)
-need-good true why next a e = (refl, e)
-need-good false why next a e = (cc, cc)
 
 -- it is the one that stands in the block, and its data end inside
 pub track-good : (kind : Kind) (b : List ℕ) (t : Track) → trackOf kind b ≡ good t

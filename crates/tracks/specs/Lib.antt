@@ -1,3 +1,3 @@
--- The definitions that a reader must believe: a track block, and entries, heads and IDs as bytes.
+-- To be believed: a track block, and entries, heads and IDs as bytes.
 pub mod Block
 pub mod Rows

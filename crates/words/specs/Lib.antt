@@ -1,2 +1,2 @@
--- The definition that a reader must believe: the answer word.
+-- To be believed: the answer word.
 pub mod Words
