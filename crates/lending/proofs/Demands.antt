@@ -6,7 +6,7 @@ use mathlib.Core.Bool.{Bool, true, false, cond}
 use mathlib.Core.List.{List, [], _∷_, _++_, map}
 use mathlib.Core.Option.{none}
 use lib.ListN.{length, take, replicate}
-use Rattle.fields.specs.Refusals.{Result, refused, good}
+use Rattle.fields.specs.Refusals.{good}
 use Rattle.fields.specs.Model.{Disk}
 use Rattle.fields.proofs.Tests.{never}
 use Rattle.registers.specs.Boxes.{World}
@@ -52,7 +52,7 @@ module _ (es : List Event) (l : Lending) (k : Host) (s : Stands l k) where
   run-is = ap (run exported es) (s .are) ∙ host-run es k (s .sound)
 
   -- they are those of one after any calls
-  stands : Stands (run exported es l .end) (run called es k .end)
+  pub stands : Stands (run exported es l .end) (run called es k .end)
   stands = record { sound = calls-sound es k (s .sound); are = ap (λ (r : Run ℕ Lending). r .end) run-is }
 
   words-are : run exported es l .answers ≡ map wordOf (run called es k .answers)
@@ -67,15 +67,15 @@ module _ (es : List Event) (l : Lending) (k : Host) (s : Stands l k) where
 host-is : (l : Lending) (k : Host) → Stands l k → hostAt l ≡ k
 host-is l k s = ap hostAt (s .are) ∙ host-back k (s .sound)
 
-here : (l : Lending) → Formed l → Stands l (hostAt l)
+pub here : (l : Lending) → Formed l → Stands l (hostAt l)
 here l f = record { sound = formed-sound l f; are = sym (formed-back l f) }
 
 -- ---- demand 2: the exported calls are the machine's
 
-machine-words : (es : List Event) (l : Lending) (k : Host) → Stands l k → run exported es l .answers ≡ map wordOf (run acted es (stageOf k) .answers)
+pub machine-words : (es : List Event) (l : Lending) (k : Host) → Stands l k → run exported es l .answers ≡ map wordOf (run acted es (stageOf k) .answers)
 machine-words es l k s = words-are es l k s ∙ ap (λ (r : Run Answer Stage). map wordOf (r .answers)) (sym (calls-run es k (s .sound)))
 
-machine-end : (es : List Event) (l : Lending) (k : Host) → Stands l k → stageIn (run exported es l .end) ≡ run acted es (stageOf k) .end
+pub machine-end : (es : List Event) (l : Lending) (k : Host) → Stands l k → stageIn (run exported es l .end) ≡ run acted es (stageOf k) .end
 machine-end es l k s =
     ap stageOf (host-is (run exported es l .end) (run called es k .end) (stands es l k s)) ∙ ap (λ (r : Run Answer Stage). r .end) (sym (calls-run es k (s .sound)))
 

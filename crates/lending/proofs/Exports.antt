@@ -1,22 +1,19 @@
 -- An exported call on the bytes of a controller that is one is the call on that controller; so are sequences of them.
-use mathlib.Core.Path.{_≡_, refl, sym, ap, subst, _∙_}
-use Prim.Native.Nat.{ℕ, _+_, _*_, _≤_, _<_}
+use mathlib.Core.Path.{_≡_, refl, sym, ap, _∙_}
+use Prim.Native.Nat.{ℕ, _≤_, _<_}
 use native.Mathlib.Omega.{arith}
-use mathlib.Core.Bool.{Bool, true, false}
-use mathlib.Core.List.{List, [], _∷_, _++_, map}
-use lib.ListN.{length, length-drop}
-use borrow.Author.Tests.{lt-ltb, le-ltb}
-use Rattle.fields.specs.Bytes.{byteAt, numberAt}
-use Rattle.fields.specs.Capacities.{mostHeld, mostTransfer}
+use mathlib.Core.Bool.{false}
+use mathlib.Core.List.{List, map}
+use lib.ListN.{length-drop}
+use borrow.Author.Tests.{le-ltb}
+use Rattle.fields.specs.Bytes.{numberAt}
 use Rattle.fields.specs.Refusals.{numberOf}
 use Rattle.fields.specs.declared.refusal.Refusal.{Refusal}
 use Rattle.fields.specs.declared.refusal.Refusal.the-variants.{BadController, BadStore, ShortImage, NotAnImage, NotATrack}
 use Rattle.fields.specs.declared.refusal.Refusal.the-variants.{TooManyTracks, TooManySectors, NoRoom, NoTransferRoom, LongInput}
-use Rattle.store.specs.Store.{transferRoom}
 use Rattle.store.specs.declared.answer.Done.{Done}
 use Rattle.store.specs.declared.answer.Done.the-variants as done
 use Rattle.store.proofs.Checks.{transfer-in}
-use Rattle.registers.specs.declared.regs.Regs.{Regs}
 use Rattle.registers.specs.declared.regs.Byte.{Byte}
 use Rattle.registers.specs.declared.regs.Byte.the-variants as byte
 use Rattle.registers.specs.declared.regs.Flag.{Flag}
@@ -29,15 +26,15 @@ use Rattle.floppy.specs.declared.Floppy.{Floppy}
 use Rattle.floppy.specs.declared.Shown.{Shown}
 use Rattle.floppy.specs.declared.Changed.{Changed}
 use Rattle.floppy.specs.Calls.{changedAs, Wrote, wrote, statusCall, readCall, writeCall}
-use Rattle.layout.specs.Layout.{numbersFor, regsAt, heldAt, formed, floppyBytes}
+use Rattle.layout.specs.Layout.{regsAt, floppyBytes}
 use Rattle.layout.proofs.Images.{formed-long}
 use Rattle.layout.proofs.Inverse.{Fitting, read-back, held-back, written-back}
 use Rattle.words.specs.Words.{byteWord, flagWord, doneWord, receiptWord, refusalWord}
-use Rattle.host.specs.Calls.{motorOn, trackOn, diskOn, Answered, answered, setMotorOn, setDiskOn, statusOn, readOn, Sending, sending, writeOn}
+use Rattle.host.specs.Calls.{Answered, answered}
 use Rattle.host.proofs.Same.{shownWord, changedWord, wroteWord, motor-same, track-same, disk-same, status-same, read-same, set-motor-same, set-disk-same, write-same}
 use Rattle.saves.specs.Events.{Question, motorOn?, whichTrack?, diskIn?, Event, poll, read, send, ask, switch, swap, widen}
-use Rattle.saves.specs.Events.{Answer, showed, gave, took, said, stood, denied, Next, Run, run}
-use Rattle.runs.specs.Hosts.{Host, withFloppy, withStore, byteSaid, flagSaid, doneSaid, receiptSaid, ifSwapped, askedIn, afterShown, afterChanged, afterSwapped, afterWrote, called, Sound}
+use Rattle.saves.specs.Events.{Answer, showed, gave, stood, run}
+use Rattle.runs.specs.Hosts.{Host, withFloppy, byteSaid, flagSaid, doneSaid, receiptSaid, ifSwapped, askedIn, afterShown, afterChanged, afterSwapped, afterWrote, called, Sound}
 use Rattle.runs.proofs.Follows.{follows}
 use Rattle.runs.proofs.Steps.{agrees}
 use Rattle.lending.specs.Lendings.{Lending, passes, swappedOn, afterAnswered, afterSending, askedOn, exported, wordOf, hostAt, lendingOf, Formed}

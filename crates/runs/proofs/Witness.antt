@@ -56,17 +56,17 @@ transfer-is = ap (λ (n : ℕ). min n mostTransfer) (length-replicate {A = ℕ} 
 unfoldable pub host : Host
 host = run called (swap true freshTable freshBytes ∷ []) (newHost [] [] (replicate mostTransfer 0)) .end
 
-host-sound : Sound host
+pub host-sound : Sound host
 unfolding host
 host-sound = calls-sound (swap true freshTable freshBytes ∷ []) (newHost [] [] (replicate mostTransfer 0)) (new-sound [] [] (replicate mostTransfer 0))
 
-host-stage : start ≡ stageOf host
+pub host-stage : start ≡ stageOf host
 unfolding host run acted
 host-stage =
     (λ i. record { setting = record { room = sym fresh-room i; transfer = sym transfer-is i }; world = changeDisk (Holds (sym fresh-laid i)) newWorld })
     ∙ ap (λ (r : Run Answer Stage). r .end) (new-run [] [] (replicate mostTransfer 0) (swap true freshTable freshBytes ∷ []))
 
-host-ready : Ready (seen host) fresh
+pub host-ready : Ready (seen host) fresh
 host-ready = subst (λ (g : Stage). Ready (g .world) fresh) host-stage start-ready
 
 -- where the calls stand

@@ -61,7 +61,7 @@ unfoldable pub sendAll : List ℕ → List Event
 sendAll [] = []
 sendAll (b ∷ bs) = send b ∷ sendAll bs
 
-sent-all : (l : List ℕ) → sentIn (sendAll l) ≡ some l
+pub sent-all : (l : List ℕ) → sentIn (sendAll l) ≡ some l
 unfolding sentIn sendAll
 sent-all [] = refl
 sent-all (b ∷ l) = ap (firstOf b) (sent-all l)
@@ -82,18 +82,20 @@ B = sendAll (readBytes example 0x46 0 3 0x2A)
 abbrev pub L : List Event
 L = send 0xFF ∷ []
 
--- nothing is refused: the save, another to the same sector behind it and alone, another to the next sector behind it and before it, and the Read Data
-pub record Grants : Type 0 where
-  pub first : granted (run acted E start .answers) ≡ true
-  pub second : granted (run acted A (run acted E start .end) .answers) ≡ true
-  pub alone : granted (run acted A start .answers) ≡ true
-  pub behind : granted (run acted O (run acted E start .end) .answers) ≡ true
-  pub other : granted (run acted O start .answers) ≡ true
-  pub before : granted (run acted E (run acted O start .end) .answers) ≡ true
-  pub begun : granted (run acted B (run acted E start .end) .answers) ≡ true
-  pub last : granted (run acted L (run acted B (run acted E start .end) .end) .answers) ≡ true
+-- a test of the answers to the save, to another to the same sector behind it and alone, to another to the next sector behind it and before it, and to
+-- the Read Data
+pub record Tried (test : List Answer → Bool) : Type 0 where
+  pub first : test (run acted E start .answers) ≡ true
+  pub second : test (run acted A (run acted E start .end) .answers) ≡ true
+  pub alone : test (run acted A start .answers) ≡ true
+  pub behind : test (run acted O (run acted E start .end) .answers) ≡ true
+  pub other : test (run acted O start .answers) ≡ true
+  pub before : test (run acted E (run acted O start .end) .answers) ≡ true
+  pub begun : test (run acted B (run acted E start .end) .answers) ≡ true
+  pub last : test (run acted L (run acted B (run acted E start .end) .end) .answers) ≡ true
 
-pub grants : Grants
+-- nothing is refused
+pub grants : Tried granted
 unfolding granted run acted sendAll bytesOf example again other changeDisk newWorld named taken changed allChanged putIn responded maskRows rows commandBy commandOf seekIf startAt writeData writeReply saveAt written obeyed commandIf commandByte dataIf dataByte byteFor sent done writePort fresh freshFrom formatted idsFrom blanks sizeOf sectorAt findFrom change saved total readBytes readAt runFrom contents servedAs readData
 grants = record { first = refl; second = refl; alone = refl; behind = refl; other = refl; before = refl; begun = refl; last = refl }
 

@@ -1,0 +1,153 @@
+-- The same saves and the same Read Data by exported calls, on the bytes of a new controller into which a fresh disk is put; none of them is refused.
+use mathlib.Core.Path.{_≡_, refl, sym, ap, subst, _∙_}
+use Prim.Native.Nat.{ℕ, zero, suc, _≤_, _<_}
+use native.Mathlib.Omega.{arith}
+use mathlib.Core.Bool.{Bool, true, false, cond}
+use mathlib.Core.List.{List, [], _∷_, map}
+use mathlib.Core.Option.{some}
+use lib.ListN.{take}
+use lib.Dec.{ltb}
+use borrow.Author.Tests.{ltb-true}
+use Rattle.fields.specs.Bytes.{byteAt}
+use Rattle.fields.specs.Refusals.{good}
+use Rattle.fields.specs.Model.{sizeOf, total}
+use Rattle.fields.proofs.Tests.{never}
+use Rattle.tracks.specs.Rows.{idsFrom}
+use Rattle.store.specs.Find.{findFrom}
+use Rattle.store.specs.Search.{sectorAt, runFrom, readAt}
+use Rattle.store.specs.Store.{contents}
+use Rattle.store.specs.Fresh.{blanks, formatted, freshFrom, fresh}
+use Rattle.disk.specs.Change.{change, saved}
+use Rattle.codes.specs.Table.{maskRows, rows, commandBy, commandOf}
+use Rattle.registers.specs.Boxes.{newWorld, named, taken, changed, allChanged, putIn, responded}
+use Rattle.registers.specs.Ports.{changeDisk}
+use Rattle.registers.specs.View.{impossible, impossibleIn}
+use Rattle.registers.specs.Calls.{diskSet}
+use Rattle.commands.specs.Commands.{seekIf, servedAs, readData, startAt, writeData, writeReply, saveAt, written, obeyed}
+use Rattle.sending.specs.Machine.{commandIf, commandByte, dataIf, dataByte, byteFor, sent, done, writePort}
+use Rattle.floppy.specs.Calls.{newFloppy}
+use Rattle.layout.specs.Layout.{numbersFor, floppyBytes}
+use Rattle.host.proofs.Same.{image-formed}
+use Rattle.saves.specs.Events.{Event, Answer, Run, run}
+use Rattle.saves.specs.Stages.{Stage, acted}
+use Rattle.saves.specs.Words.{Ready, bytesOf, savedBy, readBytes, sentIn}
+use Rattle.saves.proofs.Witness.{start, example, again, other, sendAll, sent-all, E, A, O, B, L, Tried, example-is, again-is, other-is, back-is, same, differ, reads, reads-lose-none, Told, few, told-is}
+use Rattle.runs.specs.Hosts.{Host, called, seen, stageOf}
+use Rattle.runs.proofs.Any.{calls-run}
+use Rattle.runs.proofs.Witness.{host, host-sound, host-stage, host-ready}
+use Rattle.lending.specs.Lendings.{Lending, exported, wordOf, lendingOf, seenIn, storeIn, Formed, passed, Posts, wordsRead}
+use Rattle.lending.proofs.Exports.{sound-fitting, host-back}
+use Rattle.lending.proofs.Demands.{Stands, stands, machine-words, save-bytes, second-bytes, order-bytes, back-bytes}
+
+-- ---- the bytes of the new controller are bytes
+
+small : List ℕ → Bool
+small [] = true
+small (x ∷ l) = cond (ltb x 256) (small l) false
+
+small-on : (v w : Bool) → cond v w false ≡ true → (v ≡ true) × (w ≡ true)
+small-on true w e = (refl, e)
+small-on false w e = never (cc)
+
+small-at : (l : List ℕ) → small l ≡ true → (k : ℕ) → byteAt l k < 256
+unfolding small
+small-at [] e k = omega arith
+small-at (x ∷ l) e zero = ltb-true x 256 (small-on (ltb x 256) (small l) e .0)
+small-at (x ∷ l) e (suc k) = small-at l (small-on (ltb x 256) (small l) e .1) k
+
+host-small : small (floppyBytes (host .floppy)) ≡ true
+unfolding small host run called diskSet newFloppy impossible commandOf commandBy rows maskRows numbersFor
+host-small = refl
+
+-- what a host lends then
+abbrev pub lent : Lending
+lent = lendingOf host
+
+pub lent-formed : Formed lent
+lent-formed = record {
+  are-bytes = small-at (floppyBytes (host .floppy)) host-small;
+  form = image-formed (host .floppy) (sound-fitting host host-sound) (host-sound .held);
+  possible = ap (λ (y : Host). impossibleIn (y .transfer) (y .floppy .regs)) (host-back host host-sound) ∙ host-sound .possible;
+}
+
+lent-ready : Ready (seenIn lent) fresh
+lent-ready = subst (λ (y : Host). Ready (seen y) fresh) (sym (host-back host host-sound)) host-ready
+
+-- ---- nothing is refused
+
+-- lent bytes where the machine stands at a stage
+record At (l : Lending) (g : Stage) : Type 0 where
+  pub host-there : Host
+  pub stands-there : Stands l host-there
+  pub is : g ≡ stageOf host-there
+
+at-start : At lent start
+at-start = record { host-there = host; stands-there = record { sound = host-sound; are = refl }; is = host-stage }
+
+at-end : (es : List Event) (l : Lending) (g : Stage) → At l g → At (run exported es l .end) (run acted es g .end)
+at-end es l g a = record {
+  host-there = run called es (a .host-there) .end;
+  stands-there = stands es l (a .host-there) (a .stands-there);
+  is = ap (λ (y : Stage). run acted es y .end) (a .is) ∙ ap (λ (r : Run Answer Stage). r .end) (calls-run es (a .host-there) (a .stands-there .sound));
+}
+
+-- the words of an answer, none of them a refusal
+abbrev words : List Answer → Bool
+words l = passed (map wordOf l)
+
+posts : (es : List Event) (bytes : List ℕ) (l : Lending) (g : Stage) → At l g → sentIn es ≡ some bytes → words (run acted es g .answers) ≡ true → Posts es bytes (run exported es l .answers)
+posts es bytes l g a e ok = record {
+  sends = e;
+  passing = ap passed (machine-words es l (a .host-there) (a .stands-there)) ∙ ap (λ (y : Stage). words (run acted es y .answers)) (sym (a .is)) ∙ ok;
+}
+
+tried : Tried words
+unfolding passed wordOf run acted sendAll bytesOf example again other changeDisk newWorld named taken changed allChanged putIn responded maskRows rows commandBy commandOf seekIf startAt writeData writeReply saveAt written obeyed commandIf commandByte dataIf dataByte byteFor sent done writePort fresh freshFrom formatted idsFrom blanks sizeOf sectorAt findFrom change saved total readBytes readAt runFrom contents servedAs readData
+tried = record { first = refl; second = refl; alone = refl; behind = refl; other = refl; before = refl; begun = refl; last = refl }
+
+at-e : At (run exported E lent .end) (run acted E start .end)
+at-e = at-end E lent start at-start
+
+at-o : At (run exported O lent .end) (run acted O start .end)
+at-o = at-end O lent start at-start
+
+at-b : At (run exported B (run exported E lent .end) .end) (run acted B (run acted E start .end) .end)
+at-b = at-end B (run exported E lent .end) (run acted E start .end) at-e
+
+last-sent : sentIn L ≡ some (0xFF ∷ [])
+unfolding sentIn
+last-sent = refl
+
+posts-first : Posts E (bytesOf example) (run exported E lent .answers)
+posts-first = posts E (bytesOf example) lent start at-start (sent-all (bytesOf example)) (tried .first)
+
+-- ---- so each theorem has something to say
+
+-- table and data then hold the disk on which sector 3 of cylinder 7 has the bytes
+pub lent-saves : storeIn (run exported E lent .end) ≡ good (savedBy example fresh)
+lent-saves = save-bytes example fresh lent E lent-formed lent-ready example-is posts-first .0
+
+-- the second to sector 3 alone counts
+pub lent-second : storeIn (run exported A (run exported E lent .end) .end) ≡ storeIn (run exported A lent .end)
+lent-second =
+    second-bytes example again fresh lent E A A lent-formed lent-ready example-is again-is same posts-first
+    (posts A (bytesOf again) (run exported E lent .end) (run acted E start .end) at-e (sent-all (bytesOf again)) (tried .second))
+    (posts A (bytesOf again) lent start at-start (sent-all (bytesOf again)) (tried .alone))
+
+-- sectors 3 and 4 come in either order
+pub lent-order : storeIn (run exported O (run exported E lent .end) .end) ≡ storeIn (run exported E (run exported O lent .end) .end)
+lent-order =
+    order-bytes example other fresh lent E O O E lent-formed lent-ready example-is other-is differ posts-first
+    (posts O (bytesOf other) (run exported E lent .end) (run acted E start .end) at-e (sent-all (bytesOf other)) (tried .behind))
+    (posts O (bytesOf other) lent start at-start (sent-all (bytesOf other)) (tried .other))
+    (posts E (bytesOf example) (run exported O lent .end) (run acted O start .end) at-o (sent-all (bytesOf example)) (tried .before))
+
+-- and so many data-port reads give so many of the bytes and the reply
+pub lent-back : (n : ℕ) → n ≤ 519
+    → wordsRead (reads n) (run exported (reads n) (run exported L (run exported B (run exported E lent .end) .end) .end) .answers) ≡ take n Told
+lent-back n h =
+    told-is n _
+    (back-bytes example fresh 0x46 0 3 0x2A 0xFF lent E B (reads n) lent-formed lent-ready example-is posts-first back-is
+    (posts B (readBytes example 0x46 0 3 0x2A) (run exported E lent .end) (run acted E start .end) at-e (sent-all (readBytes example 0x46 0 3 0x2A)) (tried .begun))
+    (posts L (0xFF ∷ []) (run exported B (run exported E lent .end) .end) (run acted B (run acted E start .end) .end) at-b last-sent (tried .last))
+    (reads-lose-none n _) (few n h))
