@@ -4,13 +4,13 @@ use Prim.Native.Nat.{ℕ, _-_, _≤_}
 use native.Mathlib.Omega.{arith}
 use mathlib.Core.Bool.{Bool, true, false, not}
 use mathlib.Core.List.{List, _++_, append-nil}
-use lib.ListN.{length, take, drop, replicate, drop-of-length-le, length-append, length-drop, take-append-drop}
+use lib.ListN.{length, take, drop, replicate, drop-of-length-le, length-drop, take-append-drop}
 use lib.Seq.{take-all, drop-at, length-take-le}
 use borrow.Rule.Slice.PartMut.{putMid, midOf}
 use borrow.Author.Tests.{eq-eqb, ne-eqb, not-true, not-false}
 use Rattle.buffer.proofs.Overs.{over-front}
 use Rattle.buffer.specs.Over.{over}
-use Rattle.fields.specs.Capacities.{mostData, mostHeld}
+use Rattle.fields.specs.Capacities.{mostData}
 use Rattle.fields.specs.Refusals.{Result, refused, good}
 use Rattle.fields.specs.declared.id.SectorId.{SectorId}
 use Rattle.fields.specs.declared.refusal.Refusal.{Refusal}
@@ -89,14 +89,6 @@ put-is : (l h : List ℕ) → length l ≡ controllerLength → putMid numbersLe
 put-is l h e =
     ap (λ (z : List ℕ). take numbersLength l ++ (h ++ z)) (drop-of-length-le (drop numbersLength l) {i = length l - numbersLength} (omega (arith, length-drop numbersLength l)))
     ∙ ap (λ (z : List ℕ). take numbersLength l ++ z) (append-nil h)
-
-pub mid-long : (l : List ℕ) → length l ≡ controllerLength → length (midOf numbersLength (length l - numbersLength) l) ≡ mostHeld
-mid-long l e = ap length (mid-is l) ∙ omega (arith, length-drop numbersLength l, e)
-
-pub put-long : (l h : List ℕ) → length l ≡ controllerLength → length h ≡ length (midOf numbersLength (length l - numbersLength) l) → length (putMid numbersLength (length l - numbersLength) l h) ≡ controllerLength
-put-long l h e q =
-    ap length (put-is l h e) ∙ length-append (take numbersLength l) h
-    ∙ omega (arith, length-take-le numbersLength l (omega (arith, e)), q, mid-long l e)
 
 -- a refused byte leaves the held bytes
 refused-held : (y : Result Sent) (r : Regs) (h t d x : List ℕ) (a : Written) (h′ t′ d′ x′ : List ℕ) (why : Refusal)

@@ -51,7 +51,7 @@ struct Sent {
 }
 
 // A new controller without a disk, and the most that is lent of each buffer.
-pub fn new_bench(lent: bool) -> Bench {
+pub(crate) fn new_bench(lent: bool) -> Bench {
     Bench {
         floppy: Floppy::new(),
         lent,
@@ -63,7 +63,7 @@ pub fn new_bench(lent: bool) -> Bench {
 }
 
 // Where a disk's part of a buffer begins that has A's and behind it B's.
-pub fn start_of(disk: usize, each: usize) -> usize
+pub(crate) fn start_of(disk: usize, each: usize) -> usize
     ensures { λ r. ⌜ r ≤ each ⌝ }
 {
     if disk == 2 { each } else { 0 }
@@ -410,7 +410,7 @@ fn at_ports(bench: Bench, kind: usize, number: usize, text: &[u8], transfer: &[u
 }
 
 // Makes a call of this kind.
-pub fn make(
+pub(crate) fn make(
     bench: Bench,
     kind: usize,
     number: usize,

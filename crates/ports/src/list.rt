@@ -50,7 +50,7 @@ fn take_rest(list: &mut List, name: usize) -> Next {
 }
 
 // Takes the next session.
-pub fn take_session(list: &mut List) -> Next {
+pub(crate) fn take_session(list: &mut List) -> Next {
     match take_part(list, 1, 0, IMAGE_A) {
         Chunk::End => Next::End,
         Chunk::Broken => Next::Broken,
@@ -58,18 +58,18 @@ pub fn take_session(list: &mut List) -> Next {
     }
 }
 
-pub fn name<'a>(list: &'a List, s: Session) -> &'a [u8] {
+pub(crate) fn name<'a>(list: &'a List, s: Session) -> &'a [u8] {
     buffer::part(list, 0, s.name)
 }
 
-pub fn image_a<'a>(list: &'a List, s: Session) -> &'a [u8] {
+pub(crate) fn image_a<'a>(list: &'a List, s: Session) -> &'a [u8] {
     buffer::part(list, IMAGE_A, s.a)
 }
 
-pub fn image_b<'a>(list: &'a List, s: Session) -> &'a [u8] {
+pub(crate) fn image_b<'a>(list: &'a List, s: Session) -> &'a [u8] {
     buffer::part(list, IMAGE_B, s.b)
 }
 
-pub fn calls<'a>(list: &'a List, s: Session) -> &'a [u8] {
+pub(crate) fn calls<'a>(list: &'a List, s: Session) -> &'a [u8] {
     buffer::part(list, CALLS, s.calls)
 }

@@ -44,17 +44,17 @@ fn hex_or_check(count: usize, check: u32, first: &[u8]) {
     hex(buffer::part(first, 0, count));
 }
 
-pub fn bytes(bytes: &[u8]) {
+pub(crate) fn bytes(bytes: &[u8]) {
     hex_or_check(bytes.len(), replay::check_of(bytes), bytes);
 }
 
-pub fn gave(h: Heard) {
+pub(crate) fn gave(h: Heard) {
     let first = h.first;
     hex_or_check(h.count, h.check, &first);
 }
 
 // A word, and a number.
-pub fn number(word: &[u8], n: usize) {
+pub(crate) fn number(word: &[u8], n: usize) {
     replay::put(word);
     replay::field(n as u64);
 }
@@ -64,7 +64,7 @@ fn refused(why: fields::Refusal) {
 }
 
 // The end of a call's line.
-pub fn end(receipt: Receipt) {
+pub(crate) fn end(receipt: Receipt) {
     match receipt {
         Receipt::Refused(why) => refused(why),
         Receipt::Good => {}
@@ -80,7 +80,7 @@ fn flag(flag: Flag) {
 }
 
 // Motor, track, and whether a disk is in.
-pub fn ask(f: Floppy) {
+pub(crate) fn ask(f: Floppy) {
     replay::put(b"ask motor");
     flag(f.motor());
     replay::put(b" track");
@@ -142,7 +142,7 @@ fn numbers(r: Regs) {
 }
 
 // What the ports do not show at once.
-pub fn boxes(f: Floppy, transfer: &[u8]) {
+pub(crate) fn boxes(f: Floppy, transfer: &[u8]) {
     let r = f.regs;
     numbers(r);
     unread(r, transfer);
@@ -150,7 +150,7 @@ pub fn boxes(f: Floppy, transfer: &[u8]) {
 }
 
 // A disk, whole or where that is long its totals and two check numbers: of its rows, and of all data.
-pub fn disk(table: &[u8], bytes: &[u8]) {
+pub(crate) fn disk(table: &[u8], bytes: &[u8]) {
     let held = replay::measure(table);
     if held.tracks <= MOST_PRINTED && held.sectors <= MOST_PRINTED {
         return replay::show_tracks(table, bytes);

@@ -10,10 +10,9 @@ use borrow.Author.Tests.{eq-eqb}
 use Rattle.fields.specs.Refusals.{Result, good, need, after}
 use Rattle.fields.specs.Model.{sizeOf, Sector, Disk, byteCount}
 use Rattle.fields.specs.declared.id.SectorId.{SectorId}
-use Rattle.fields.specs.declared.refusal.Refusal.{Refusal}
 use Rattle.fields.specs.declared.refusal.Refusal.the-variants.{NoRoom}
 use Rattle.fields.proofs.Sizes.{size-pos}
-use Rattle.fields.proofs.Tests.{never}
+use Rattle.fields.proofs.Tests.{need-good}
 use Rattle.store.specs.Find.{found}
 use Rattle.store.specs.Search.{sectorAt}
 use Rattle.disk.specs.Change.{withContent, saved}
@@ -77,10 +76,6 @@ module _ (s : Setting) (m : Bool) (x : ℕ) (d : Disk) where
       ∙ write-fed (a .cylinder) (a .code) (a .c1) (a .id) (a .eot) (a .gap) (a .dtl) (a .content) (h .place) (h .sector) (h .writes) (h .writes-drive-0) (h .there)
       ∙ content-fed (a .cylinder) (a .c1) (a .id) (a .content) (h .place) (h .sector) (h .as-many) (h .writes-drive-0) (h .there)
 
-need-good : {A : Type 0} (v : Bool) (why : Refusal) (a b : A) → need v why (good a) ≡ good b → b ≡ a
-need-good true why a b e = cc
-need-good false why a b e = never (cc)
-
 ready-is : (w : World) (d : Disk) → Ready w d → w .inside ≡ partly (w .inside .motor) (w .inside .drives .first .cylinder) (w .inside .index) d []
 ready-is w d h k = record {
   motor = w .inside .motor;
@@ -98,8 +93,9 @@ saved-inside a d g es ready save made =
     let w : World = g .world in
     let i : Inside = partly (w .inside .motor) (w .inside .drives .first .cylinder) (w .inside .index) d [] in
     let e : fed s (bytesOf a) i ≡ good (run acted es g .end .world .inside) = ap (fed s (bytesOf a)) (sym (ready-is w d ready)) ∙ run-fed es g (bytesOf a) (made .sends) (made .grants) .inside in
-    need-good (leb (byteCount (savedBy a d)) (s .room)) NoRoom (partly (w .inside .motor) (a .cylinder) (w .inside .index) (savedBy a d) []) (run acted es g .end .world .inside)
-    (sym (save-fed s (w .inside .motor) (w .inside .index) d (w .inside .drives .first .cylinder) a save) ∙ e)
+    let n = need-good (leb (byteCount (savedBy a d)) (s .room)) NoRoom (good (partly (w .inside .motor) (a .cylinder) (w .inside .index) (savedBy a d) [])) (run acted es g .end .world .inside)
+    (sym (save-fed s (w .inside .motor) (w .inside .index) d (w .inside .drives .first .cylinder) a save) ∙ e) in
+    cc (n .1)
 
 -- and the next one may begin
 pub saved-ready : (a : Save) (d : Disk) (g : Stage) (es : List Event) → Ready (g .world) d → IsSave a d → Sends es (bytesOf a) (run acted es g .answers)

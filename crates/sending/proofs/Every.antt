@@ -1,10 +1,12 @@
 -- What holds of the effect of every command and of every finished write holds of the effect of a byte sent.
+use mathlib.Core.Path.{_≡_, refl}
 use Prim.Native.Nat.{ℕ}
 use mathlib.Core.Bool.{Bool, true, false}
 use mathlib.Core.List.{List, [], _∷_, _++_}
 use mathlib.Core.Option.{Option, none, some}
 use lib.ListN.{length}
 use lib.Dec.{eqb}
+use borrow.Author.Tests.{eqb-true}
 use Rattle.fields.specs.Refusals.{Result, refused, good}
 use Rattle.fields.specs.Model.{sizeOf, Disk}
 use Rattle.codes.specs.declared.command.Command.{Command}
@@ -31,30 +33,40 @@ module _ (P : Response → Option Disk → Type 0) where
   of-sends x (refused why) q = tt
   of-sends x (good e) q = q
 
-  module _ (s : Setting) (i : Inside) (still : P Stay none)
-      (obeys : (k : Command) (l : List ℕ) → OfEffect (obeyed s k l (i .drives) (i .index)))
-      (writes : (w : Writing) → OfEffect (written s w (named (w .c1) (i .drives)))) where
-    of-command : (v : Bool) (k : Command) (l : List ℕ) → OfEffect (commandIf v s k l (i .drives) (i .index))
-    unfolding commandIf
-    of-command true k l = of-clearing (obeyed s k l (i .drives) (i .index)) (obeys k l)
-    of-command false k l = still
+  -- of the command that this byte makes whole, while no write is in progress, and of every write
+  module _ (s : Setting) (i : Inside) (b : ℕ) (still : P Stay none) where
+    abbrev Line : List ℕ
+    Line = i .command ++ (b ∷ [])
 
-    of-data : (v : Bool) (w : Writing) → OfEffect (dataIf v s w (i .drives))
-    unfolding dataIf
-    of-data true w = writes w
-    of-data false w = still
+    abbrev Which : Command
+    Which = commandOf (byte Line 0)
 
-    of-byte : (b : ℕ) (w : Option Writing) → OfSent (byteFor s i b w)
-    unfolding byteFor commandByte dataByte
-    of-byte b none =
-        let l : List ℕ = i .command ++ (b ∷ []) in
-        let k : Command = commandOf (byte l 0) in
-        let v : Bool = eqb (length l) (bytesFor k) in
-        of-sends (Add b) (commandIf v s k l (i .drives) (i .index)) (of-command v k l)
-    of-byte b (some w) =
-        let v : Bool = eqb (length (holding b w .held)) (sizeOf (w .id .n)) in
-        of-sends (Hold b) (dataIf v s (holding b w) (i .drives)) (of-data v (holding b w))
+    module _ (obeys : i .write ≡ none → length Line ≡ bytesFor Which → OfEffect (obeyed s Which Line (i .drives) (i .index)))
+        (writes : (w : Writing) → OfEffect (written s w (named (w .c1) (i .drives)))) where
+      of-command : (v : Bool) → i .write ≡ none → eqb (length Line) (bytesFor Which) ≡ v → OfEffect (commandIf v s Which Line (i .drives) (i .index))
+      unfolding commandIf
+      of-command true n e = of-clearing (obeyed s Which Line (i .drives) (i .index)) (obeys n (eqb-true _ _ e))
+      of-command false n e = still
 
-    pub of-sent : (b : ℕ) → OfSent (sent s i b)
-    unfolding sent
-    of-sent b = of-byte b (i .write)
+      of-data : (v : Bool) (w : Writing) → OfEffect (dataIf v s w (i .drives))
+      unfolding dataIf
+      of-data true w = writes w
+      of-data false w = still
+
+      of-byte : (w : Option Writing) → i .write ≡ w → OfSent (byteFor s i b w)
+      unfolding byteFor commandByte dataByte
+      of-byte none n =
+          let v : Bool = eqb (length Line) (bytesFor Which) in
+          of-sends (Add b) (commandIf v s Which Line (i .drives) (i .index)) (of-command v n refl)
+      of-byte (some w) n =
+          let v : Bool = eqb (length (holding b w .held)) (sizeOf (w .id .n)) in
+          of-sends (Hold b) (dataIf v s (holding b w) (i .drives)) (of-data v (holding b w))
+
+      pub of-this : OfSent (sent s i b)
+      unfolding sent
+      of-this = of-byte (i .write) refl
+
+  -- of every command and every write
+  pub of-sent : (s : Setting) (i : Inside) → P Stay none → ((k : Command) (l : List ℕ) → OfEffect (obeyed s k l (i .drives) (i .index)))
+      → ((w : Writing) → OfEffect (written s w (named (w .c1) (i .drives)))) → (b : ℕ) → OfSent (sent s i b)
+  of-sent s i still obeys writes b = of-this s i b still (λ n e. obeys _ _) writes

@@ -2,4 +2,5 @@
 pub mod Sends
 pub mod Every
 pub mod Seen
+pub mod Stays
 pub mod Sessions

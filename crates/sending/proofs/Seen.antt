@@ -44,9 +44,9 @@ use Rattle.codes.specs.Second.{u, headOf}
 use Rattle.commands.specs.Commands.{byte, idOf, ready, whenReady, puts, seekTo, readData, writeData, readId, writeReply, saveAt, written, formatOf, formatTrack, obeyed}
 use Rattle.sending.specs.Machine.{sends, commandIf, commandByte, dataIf, dataByte, sent, done, writePort}
 use Rattle.commands.specs.Lent.{tableWith, dataWith, transferWith, Left, left, leftOf}
-use Rattle.sending.specs.Calls.{sentTo, dataWrite}
+use Rattle.sending.specs.Calls.{dataWrite}
 use Rattle.commands.proofs.Runs.{Unput, quiet-seek, quiet-id, quiet-write, unput-read}
-use Rattle.sending.proofs.Sends.{sent-right, sent-data, sent-command}
+use Rattle.sending.proofs.Sends.{wrong-length, wrong-numbers, write-wrong, sent-right, sent-data, sent-command}
 use Rattle.sending.proofs.Every.{OfEffect, OfSent, of-sent}
 
 -- ---- inside: taking a byte, and changes
@@ -331,12 +331,15 @@ module _ (r : Regs) (b : ℕ) (h t d x : List ℕ) (ok : impossibleIn x r ≡ fa
   pub write-seen : Sees (dataWrite r b h t d x) (writePort (settingOf d x) (worldOf r h t d x) b)
   unfolding dataWrite
   write-seen =
-      subst (λ (z : Result Sent). Sees (leftOf z r h t d x) (writePort (settingOf d x) (worldOf r h t d x) b)) (sent-right r b h t d x ok) (seen-sent (r .write .on) refl)
+      subst (λ (z : Result Sent). Sees (leftOf z r h t d x) (writePort (settingOf d x) (worldOf r h t d x) b)) (sent-right r b h t d x ok held) (seen-sent (r .write .on) refl)
 
--- numbers that no controller has are refusal 1, and change nothing
-pub write-refused : (r : Regs) (b : ℕ) (h t d x : List ℕ) → impossibleIn x r ≡ true → dataWrite r b h t d x ≡ left (declined BadController r) h t d x
-unfolding dataWrite sentTo leftOf
-write-refused r b h t d x e = rw e
+-- numbers that no controller has, and held bytes of another length, are refusal 1, and change nothing
+module _ (r : Regs) (b : ℕ) (h t d x : List ℕ) where
+  pub write-refused : impossibleIn x r ≡ true → dataWrite r b h t d x ≡ left (declined BadController r) h t d x
+  write-refused e = sym (write-wrong r b h t d x (declined BadController r) (wrong-numbers r h x e) refl)
+
+  pub write-unheld : (length h ≡ mostHeld → ⊥) → dataWrite r b h t d x ≡ left (declined BadController r) h t d x
+  write-unheld n = sym (write-wrong r b h t d x (declined BadController r) (wrong-length r h x n) refl)
 
 -- whether a disk is in, seen: whether there is one in the drive
 pub disk-told : (r : Regs) (h t d x : List ℕ) → impossible r ≡ false → diskIn r ≡ flag.Of (ready (worldOf r h t d x .inside .drives .first .slot))

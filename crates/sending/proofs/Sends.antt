@@ -3,7 +3,7 @@ use mathlib.Core.Path.{_≡_, refl, sym, ap, subst, _∙_}
 use Prim.Native.Nat.{ℕ, _+_, _-_, _≤_, _<_}
 use native.Mathlib.Omega.{arith}
 use native.Mathlib.Numerals.{add-one}
-use mathlib.Core.Bool.{Bool, true, false}
+use mathlib.Core.Bool.{Bool, true, false, not, _||_}
 use mathlib.Core.List.{List, [], _∷_, _++_}
 use lib.ListN.{length, getD, set, take, length-append, length-take, length-set}
 use lib.Seq.{getD-take, take-suc-set, set-set, set-getD, take-all}
@@ -28,7 +28,7 @@ use Rattle.sending.specs.Machine.{sends, clearing, commandIf, commandByt
 use Rattle.registers.specs.View.{settingOf, slotOf, drivesOf, namedIn, writingOf, writingIf, insideOf, impossibleIn}
 use Rattle.registers.specs.Settle.{accepted, declined, regsTaken, regsChanged, regsAll, regsResponded, regsOf, keptIf, kept}
 use Rattle.commands.specs.Lent.{tableWith, dataWith, tableAfter, dataAfter, Stores, Ran, ran, ranOf, writtenHere, ranHere, Left, left, leftOf}
-use Rattle.sending.specs.Calls.{commandHere, dataHere, sentTo, dataWrite}
+use Rattle.sending.specs.Calls.{commandHere, dataHere, impossibleWith, sentTo, dataWrite}
 use Rattle.commands.proofs.Runs.{still-response, Still, still-written}
 use Rattle.fields.specs.Capacities.{mostHeld}
 
@@ -187,8 +187,27 @@ module _ (r : Regs) (b : ℕ) (h t d x : List ℕ) (room : r .write .taken < len
 
 -- ---- the call
 
+-- what is refused as no controller's: held bytes of another length, and impossible numbers; and nothing else
+module _ (r : Regs) (h x : List ℕ) where
+  pub wrong-length : (length h ≡ mostHeld → ⊥) → impossibleWith h x r ≡ true
+  unfolding impossibleWith
+  wrong-length n = rw (ne-eqb _ _ n)
+
+  pub wrong-numbers : impossibleIn x r ≡ true → impossibleWith h x r ≡ true
+  unfolding impossibleWith
+  wrong-numbers e = go (eqb (length h) mostHeld)
+    where
+      go : (v : Bool) → (not v || impossibleIn x r) ≡ true
+      go true = e
+      go false = refl
+
+  right-with : impossibleIn x r ≡ false → length h ≡ mostHeld → impossibleWith h x r ≡ false
+  unfolding impossibleWith
+  right-with e l = rw (eq-eqb _ _ l, e)
+
 module _ (r : Regs) (b : ℕ) (h t d x : List ℕ) where
-  pub write-wrong : (a : Written) → impossibleIn x r ≡ true → a ≡ declined BadController r → left a h t d x ≡ dataWrite r b h t d x
+  -- then every lent byte is as it came
+  pub write-wrong : (a : Written) → impossibleWith h x r ≡ true → a ≡ declined BadController r → left a h t d x ≡ dataWrite r b h t d x
   unfolding dataWrite sentTo leftOf
   write-wrong a e f = rw (e, f)
 
@@ -204,9 +223,10 @@ module _ (r : Regs) (b : ℕ) (h t d x : List ℕ) where
   for-command false p s i q = refl
   for-command true p s i q = never (cc)
 
-  pub sent-right : impossibleIn x r ≡ false → sent (settingOf d x) (insideOf r h (slotOf r t d)) b ≡ sentTo r b h t d x
+  -- else the machine is asked
+  pub sent-right : impossibleIn x r ≡ false → length h ≡ mostHeld → sent (settingOf d x) (insideOf r h (slotOf r t d)) b ≡ sentTo r b h t d x
   unfolding sentTo
-  sent-right e = rw e
+  sent-right e l = rw (right-with r h x e l)
 
   pub sent-data : r .write .on ≡ true → dataHere r b h t d x ≡ sent (settingOf d x) (insideOf r h (slotOf r t d)) b
   unfolding sent insideOf
@@ -217,13 +237,13 @@ module _ (r : Regs) (b : ℕ) (h t d x : List ℕ) where
   sent-command q = for-command (r .write .on) (r .write) (settingOf d x) (insideOf r h (slotOf r t d)) q
 
   -- what is left of a byte, where the numbers are possible
-  pub left-data : (y : Left) → impossibleIn x r ≡ false → r .write .on ≡ true → y ≡ leftOf (dataHere r b h t d x) r h t d x → y ≡ dataWrite r b h t d x
+  pub left-data : (y : Left) → impossibleIn x r ≡ false → length h ≡ mostHeld → r .write .on ≡ true → y ≡ leftOf (dataHere r b h t d x) r h t d x → y ≡ dataWrite r b h t d x
   unfolding dataWrite
-  left-data y e q f = f ∙ ap (λ (z : Result Sent). leftOf z r h t d x) (sent-data q ∙ sent-right e)
+  left-data y e l q f = f ∙ ap (λ (z : Result Sent). leftOf z r h t d x) (sent-data q ∙ sent-right e l)
 
-  pub left-command : (y : Left) → impossibleIn x r ≡ false → r .write .on ≡ false → y ≡ leftOf (commandHere r b t d x) r h t d x → y ≡ dataWrite r b h t d x
+  pub left-command : (y : Left) → impossibleIn x r ≡ false → length h ≡ mostHeld → r .write .on ≡ false → y ≡ leftOf (commandHere r b t d x) r h t d x → y ≡ dataWrite r b h t d x
   unfolding dataWrite
-  left-command y e q f = f ∙ ap (λ (z : Result Sent). leftOf z r h t d x) (sent-command q ∙ sent-right e)
+  left-command y e l q f = f ∙ ap (λ (z : Result Sent). leftOf z r h t d x) (sent-command q ∙ sent-right e l)
 
 -- ---- places after a byte is stored
 

@@ -1,16 +1,11 @@
--- The sessions that 01 marks P ("Sessions to check"), as one table with one statement. The others are run by the program `ports`.
+-- The table of sessions holds.
 use mathlib.Core.Path.{_≡_, refl}
-use Prim.Native.Nat.{ℕ, _-_}
-use mathlib.Core.Bool.{Bool, true, false}
-use mathlib.Core.List.{List, [], _∷_, _++_}
-use lib.ListN.{length, replicate}
-use lib.Dec.{eqb}
+use Prim.Native.Nat.{_-_}
+use mathlib.Core.Bool.{true}
 use Rattle.buffer.specs.Same.{sameBytes}
 use Rattle.fields.specs.Bytes.{numberAt, textAt, withBit}
-use Rattle.fields.specs.Capacities.{mostData, mostTransfer}
-use Rattle.fields.specs.Refusals.{Result, refused, good, numberOf}
 use Rattle.fields.specs.Model.{sizeOf, total}
-use Rattle.image.specs.Dsk.{Dsk, entries, headerOf, entryOf, tracksFrom, dskOf}
+use Rattle.image.specs.Dsk.{entries, headerOf, entryOf, tracksFrom, dskOf}
 use Rattle.image.specs.Dsk as dsk
 use Rattle.tracks.specs.Rows.{idsFrom}
 use Rattle.store.specs.Find.{findFrom}
@@ -20,90 +15,14 @@ use Rattle.store.specs.Fresh.{blanks, formatted, freshFrom, fresh}
 use Rattle.store.specs.Calls.{within}
 use Rattle.disk.specs.Change.{change, insert, sortOnto, sorted, setTrack}
 use Rattle.disk.specs.Calls.{endOf}
-use Rattle.registers.specs.Boxes.{Setting, Slot, Empty, Holds, World, newWorld, named, taken, changed, allChanged, putIn, interrupted, responded}
+use Rattle.registers.specs.Boxes.{newWorld, named, taken, changed, allChanged, putIn, interrupted, responded}
 use Rattle.codes.specs.Table.{maskRows, rows, commandBy, commandOf}
 use Rattle.registers.specs.Ports.{status, polled, afterStatus, given, readFrom, portByte, afterRead, changeDisk}
 use Rattle.commands.specs.Commands.{missing, senseIf, seekIf, markOf, readReply, servedAs, readData, formatTrack, obeyed}
 use Rattle.sending.specs.Machine.{commandIf, commandByte, byteFor, sent, done, writePort}
-
--- a call: a byte sent, a status read and what it shows, a data-port read and what it gives
-pub data Call : Type 0 where
-  sends : ℕ → Call
-  shows : ℕ → Call
-  gives : ℕ → Call
-
--- a case: a new controller with a drive and calls; a size by n; an image that is refused with a number, or loaded with so many tracks
-pub data Case : Type 0 where
-  session : Slot → List Call → Case
-  size : ℕ → ℕ → Case
-  refuses : List ℕ → ℕ → Case
-  loads : List ℕ → ℕ → Case
-
--- all the room that there can be
-abbrev pub ample : Setting
-ample = record { room = mostData; transfer = mostTransfer }
-
-unfoldable pub plays : List Call → World → Bool
-plays [] w = true
-plays (sends b ∷ cs) w = elim (writePort ample w b) [ refused why ↦ false | good v ↦ plays cs v ]
-plays (shows b ∷ cs) w = elim (eqb (status w) b) [ true ↦ plays cs (afterStatus w) | false ↦ false ]
-plays (gives b ∷ cs) w = elim (eqb (portByte w) b) [ true ↦ plays cs (afterRead w) | false ↦ false ]
-
-unfoldable pub isRefused : Result Dsk → ℕ → Bool
-isRefused (refused why) n = eqb (numberOf why) n
-isRefused (good d) n = false
-
-unfoldable pub hasTracks : Result Dsk → ℕ → Bool
-hasTracks (refused why) n = false
-hasTracks (good d) n = eqb (length (d .disk)) n
-
-unfoldable pub holds : Case → Bool
-holds (session slot calls) = plays calls (changeDisk slot newWorld)
-holds (size n expected) = eqb (sizeOf n) expected
-holds (refuses image n) = isRefused (dskOf image) n
-holds (loads image n) = hasTracks (dskOf image) n
-
-unfoldable pub allHold : List Case → Bool
-allHold [] = true
-allHold (x ∷ xs) = elim (holds x) [ true ↦ allHold xs | false ↦ false ]
-
--- bytes sent one after another, and bytes that are given
-unfoldable pub send : List ℕ → List Call
-send [] = []
-send (b ∷ bs) = sends b ∷ send bs
-
-unfoldable pub give : List ℕ → List Call
-give [] = []
-give (b ∷ bs) = gives b ∷ give bs
-
--- the drive with a fresh disk; `MV - CPC` and zeros behind it, so many bytes in all
-abbrev pub freshIn : Slot
-freshIn = Holds (good fresh)
-
-unfoldable pub normal : ℕ → List ℕ
-normal n = 0x4D ∷ 0x56 ∷ 0x20 ∷ 0x2D ∷ 0x20 ∷ 0x43 ∷ 0x50 ∷ 0x43 ∷ replicate (n - 8) 0
-
--- the table of 01, in its order
-unfoldable pub table : List Case
-table =
-    session freshIn (shows 0x80 ∷ gives 0x00 ∷ [])
-    ∷ session freshIn (sends 0x04 ∷ shows 0x90 ∷ sends 0x00 ∷ gives 0x38 ∷ [])
-    ∷ session freshIn (send (0x04 ∷ 0x05 ∷ []) ++ gives 0x81 ∷ [])
-    ∷ session freshIn (send (0x0F ∷ 0x00 ∷ 0x05 ∷ []) ++ shows 0x81 ∷ sends 0x08 ∷ shows 0xD1 ∷ give (0x20 ∷ 0x05 ∷ []) ++ sends 0x08 ∷ give (0x80 ∷ 0x05 ∷ []))
-    ∷ size 0 128
-    ∷ size 3 1024
-    ∷ size 4 128
-    ∷ size 255 1024
-    ∷ session freshIn (send (0x46 ∷ 0x00 ∷ 0x00 ∷ 0x00 ∷ 0x41 ∷ 0x02 ∷ 0x41 ∷ 0x2A ∷ 0xFF ∷ []) ++ give (0x40 ∷ 0x01 ∷ 0x00 ∷ 0xFF ∷ 0xFF ∷ 0xFF ∷ 0xFF ∷ []))
-    ∷ session Empty (send (0x46 ∷ 0x00 ∷ 0x00 ∷ 0x00 ∷ 0x01 ∷ 0x02 ∷ 0x01 ∷ 0x2A ∷ 0xFF ∷ []) ++ give (0xC8 ∷ 0x00 ∷ 0x00 ∷ 0x00 ∷ 0x00 ∷ 0x01 ∷ 0x02 ∷ []))
-    ∷ session freshIn (send (0x4D ∷ 0x00 ∷ 0x01 ∷ 0x03 ∷ 0x2A ∷ 0xAA ∷ []) ++ give (0x00 ∷ 0x00 ∷ 0x00 ∷ 0x00 ∷ 0x00 ∷ 0x00 ∷ 0x01 ∷ []))
-    ∷ refuses (replicate 11 0) 3
-    ∷ refuses (replicate 12 0) 4
-    ∷ refuses (normal 51) 3
-    ∷ loads (normal 52) 0
-    ∷ []
+use Rattle.sending.specs.Sessions.{plays, isRefused, hasTracks, holds, allHold, enter, give, normal, sessions}
 
 -- every row holds
-pub sessions-hold : allHold table ≡ true
-unfolding maskRows sameBytes numberAt textAt sizeOf total entries headerOf entryOf tracksFrom dskOf dsk.imageKind findFrom sectorAt runFrom readAt contents idsFrom blanks formatted freshFrom fresh within change insert sortOnto sorted setTrack newWorld named taken changed allChanged putIn interrupted responded rows commandBy commandOf status polled afterStatus given readFrom portByte afterRead changeDisk missing withBit senseIf seekIf endOf markOf readReply servedAs readData formatTrack obeyed commandIf commandByte byteFor sent done writePort plays isRefused hasTracks holds allHold send give normal table
+pub sessions-hold : allHold sessions ≡ true
+unfolding maskRows sameBytes numberAt textAt sizeOf total entries headerOf entryOf tracksFrom dskOf dsk.imageKind findFrom sectorAt runFrom readAt contents idsFrom blanks formatted freshFrom fresh within change insert sortOnto sorted setTrack newWorld named taken changed allChanged putIn interrupted responded rows commandBy commandOf status polled afterStatus given readFrom portByte afterRead changeDisk missing withBit senseIf seekIf endOf markOf readReply servedAs readData formatTrack obeyed commandIf commandByte byteFor sent done writePort plays isRefused hasTracks holds allHold enter give normal sessions
 sessions-hold = refl

@@ -1,4 +1,5 @@
--- To be believed: what a byte sent does.
+-- To be believed: what a byte sent does, and the sessions that document 01 gives.
 pub mod Machine
+pub mod Sessions
 -- Not needed for that: the same on the controller's numbers and the lent bytes; `write-seen` and `write-refused` (`proofs/Seen.antt`) say what it is.
 pub mod Calls

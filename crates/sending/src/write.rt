@@ -5,6 +5,7 @@ use codes::command_of;
 use codes::head_of;
 use commands::run_cmd;
 use disk::Saved;
+use fields::HELD;
 use fields::Refusal;
 use fields::St1;
 use registers::Receipt;
@@ -91,7 +92,7 @@ fn maybe_run_cmd(
     regs.kept(run_cmd(r.cleared(), which, command, table, bytes, transfer))
 }
 
-// A byte sent: one of a write in progress, or else of a command.
+// A byte sent: one of a write in progress, or else of a command. 1 for held bytes of another length, or numbers that no controller has.
 pub fn write_cmd(
     regs: Regs,
     b: u8,
@@ -100,10 +101,12 @@ pub fn write_cmd(
     bytes: &mut [u8],
     transfer: &mut [u8],
 ) -> Written
-    requires { ⌜ length (now held) ≡ mostHeld ⌝ }
     ensures { λ r. ⌜ left r (now (held .exit)) (now (table .exit)) (now (bytes .exit)) (now (transfer .exit))
         ≡ dataWrite regs b (now (held .entry)) (now (table .entry)) (now (bytes .entry)) (now (transfer .entry)) ⌝ }
 {
+    if held.len() != HELD {
+        return regs.refused(Refusal::BadController);
+    }
     if regs.impossible_in(transfer) {
         return regs.refused(Refusal::BadController);
     }

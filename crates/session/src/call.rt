@@ -46,7 +46,7 @@ fn insert(loaded: u64, controller: &mut Controller) {
     answer(host::floppy_set_disk(controller, 1));
 }
 
-pub fn fresh(controller: &mut Controller, table: &mut Table, content: &mut Content) {
+pub(crate) fn fresh(controller: &mut Controller, table: &mut Table, content: &mut Content) {
     insert(host::disk_new_formatted(table, content), controller);
 }
 
@@ -74,7 +74,7 @@ fn fetch(path: &[u8], spare: &mut Spare) -> Fetched {
     fetched
 }
 
-pub fn load(
+pub(crate) fn load(
     number: u64,
     path: &[u8],
     controller: &mut Controller,
@@ -106,13 +106,13 @@ pub fn load(
 }
 
 // Takes the disk out.
-pub fn remove(controller: &mut Controller) {
+pub(crate) fn remove(controller: &mut Controller) {
     answer(host::floppy_set_disk(controller, 0));
 }
 
 // ---- the controller
 
-pub fn motor(on: usize, controller: &mut Controller) {
+pub(crate) fn motor(on: usize, controller: &mut Controller) {
     answer(host::floppy_set_motor(controller, (on % 256) as u8));
 }
 
@@ -181,7 +181,7 @@ fn refused(passed: Passed, times: usize) {
     refused_at(passed.word, passed.at);
 }
 
-pub fn status(times: usize, controller: &mut Controller, spare: &mut Spare) {
+pub(crate) fn status(times: usize, controller: &mut Controller, spare: &mut Spare) {
     let passed = reads(false, times, controller, b"", spare);
     if 0 < passed.count {
         text(b"status");
@@ -196,7 +196,7 @@ pub fn status(times: usize, controller: &mut Controller, spare: &mut Spare) {
     }
 }
 
-pub fn read(
+pub(crate) fn read(
     times: usize,
     lent: usize,
     controller: &mut Controller,
@@ -237,7 +237,7 @@ fn send(
     sends(sent, controller, table, content, &mut transfer[..room])
 }
 
-pub fn write(
+pub(crate) fn write(
     count: usize,
     lent: usize,
     controller: &mut Controller,
@@ -265,7 +265,7 @@ fn lacks_disk(controller: &Controller) -> bool {
     true
 }
 
-pub fn geometry(controller: &Controller, table: &Table, content: &Content) {
+pub(crate) fn geometry(controller: &Controller, table: &Table, content: &Content) {
     if lacks_disk(controller) {
         return;
     }
@@ -289,7 +289,7 @@ fn show_sector(found: u64, content: &Content) {
 }
 
 // The sector whose address stands in the first six bytes: side, cylinder, c, h, r and n.
-pub fn sector(controller: &Controller, table: &Table, content: &Content, address: &Spare) {
+pub(crate) fn sector(controller: &Controller, table: &Table, content: &Content, address: &Spare) {
     if lacks_disk(controller) {
         return;
     }
@@ -310,7 +310,7 @@ pub fn sector(controller: &Controller, table: &Table, content: &Content, address
     show_sector(found, content);
 }
 
-pub fn disk(controller: &Controller, table: &Table, content: &Content) {
+pub(crate) fn disk(controller: &Controller, table: &Table, content: &Content) {
     if lacks_disk(controller) {
         return;
     }

@@ -16,7 +16,7 @@ pub struct Input {
     pub over: bool,
 }
 
-pub fn start() -> Input {
+pub(crate) fn start() -> Input {
     Input {
         at: 0,
         end: 0,
@@ -62,7 +62,7 @@ fn add(line: &mut Line, len: usize, b: u8) -> usize {
 }
 
 // Takes a line; a last one may have no newline.
-pub fn take_line(last: Input, piece: &mut Piece, line: &mut Line) -> Input {
+pub(crate) fn take_line(last: Input, piece: &mut Piece, line: &mut Line) -> Input {
     let mut input = last;
     input.len = 0;
     let mut left = u64::MAX;
@@ -85,6 +85,6 @@ pub fn take_line(last: Input, piece: &mut Piece, line: &mut Line) -> Input {
 }
 
 // The line that was taken.
-pub fn taken<'a>(input: Input, line: &'a Line) -> &'a [u8] {
+pub(crate) fn taken<'a>(input: Input, line: &'a Line) -> &'a [u8] {
     buffer::part(line, 0, input.len)
 }

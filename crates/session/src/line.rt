@@ -34,7 +34,7 @@ fn find(line: &[u8], at: usize, blank: bool) -> usize {
 }
 
 // The next word from a place on.
-pub fn next(line: &[u8], at: usize) -> Span {
+pub(crate) fn next(line: &[u8], at: usize) -> Span {
     let from = find(line, at, false);
     let to = find(line, from, true);
     Span { from, to }
@@ -47,12 +47,12 @@ fn between<'a>(line: &'a [u8], from: usize, to: usize) -> &'a [u8] {
     buffer::part(line, from, to - from)
 }
 
-pub fn text_of<'a>(line: &'a [u8], span: Span) -> &'a [u8] {
+pub(crate) fn text_of<'a>(line: &'a [u8], span: Span) -> &'a [u8] {
     between(line, span.from, span.to)
 }
 
 // A word by its number from 0, empty where there are not so many.
-pub fn word<'a>(line: &'a [u8], number: usize) -> &'a [u8] {
+pub(crate) fn word<'a>(line: &'a [u8], number: usize) -> &'a [u8] {
     let mut span = next(line, 0);
     let mut k: usize = 0;
     while k < number {
@@ -70,7 +70,7 @@ fn begins(behind_blank: bool, blank: bool) -> usize
 }
 
 // How many words a line has.
-pub fn count(line: &[u8]) -> usize {
+pub(crate) fn count(line: &[u8]) -> usize {
     let mut words: usize = 0;
     let mut behind_blank = true;
     let mut i = 0;
@@ -96,7 +96,7 @@ fn end(line: &[u8]) -> usize {
 }
 
 // All behind the first word, as it stands: a file's name may have blanks inside.
-pub fn rest<'a>(line: &'a [u8]) -> &'a [u8] {
+pub(crate) fn rest<'a>(line: &'a [u8]) -> &'a [u8] {
     let first = next(line, 0);
     let second = next(line, first.to);
     between(line, second.from, end(line))
@@ -128,7 +128,7 @@ fn digit(b: u8) -> usize
 }
 
 // A decimal number up to MOST.
-pub fn number(word: &[u8]) -> Value {
+pub(crate) fn number(word: &[u8]) -> Value {
     if word.len() == 0 {
         return Value::Other;
     }
@@ -149,7 +149,7 @@ pub fn number(word: &[u8]) -> Value {
 }
 
 // A byte of two hex digits.
-pub fn byte(word: &[u8]) -> Value {
+pub(crate) fn byte(word: &[u8]) -> Value {
     if word.len() != 2 {
         return Value::Other;
     }

@@ -38,7 +38,7 @@ fn start(number: u64) {
 }
 
 // A word of a line, and what is wrong with it.
-pub fn at_word(number: u64, word: &[u8], fault: &[u8]) {
+pub(crate) fn at_word(number: u64, word: &[u8], fault: &[u8]) {
     start(number);
     quoted(word);
     text(fault);
@@ -80,14 +80,14 @@ fn what(number: u64, line: &[u8], fault: Fault) {
     }
 }
 
-pub fn wrong(number: u64, line: &[u8], name: Name, fault: Fault) {
+pub(crate) fn wrong(number: u64, line: &[u8], name: Name, fault: Fault) {
     what(number, line, fault);
     text(b"; expected: ");
     form(name);
     text(b"\n");
 }
 
-pub fn too_long(number: u64) {
+pub(crate) fn too_long(number: u64) {
     start(number);
     text(b"longer than 4096 bytes, the most that a line may have\n");
 }

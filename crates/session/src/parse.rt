@@ -147,7 +147,7 @@ fn byte(word: &[u8], in_hex: bool) -> Value {
     }
 }
 
-pub fn put_at(bytes: &mut [u8], at: usize, b: u8) {
+pub(crate) fn put_at(bytes: &mut [u8], at: usize, b: u8) {
     if at < bytes.len() {
         bytes[at] = b;
     }
@@ -189,7 +189,7 @@ fn operands(name: Name, text: &[u8], spare: &mut Spare) -> Parsed {
 }
 
 // Reads a line; nothing where it is blank or a comment.
-pub fn parse(text: &[u8], spare: &mut Spare) -> Parsed {
+pub(crate) fn parse(text: &[u8], spare: &mut Spare) -> Parsed {
     let words = line::count(text);
     let first = line::word(text, 0);
     if words == 0 || fields::byte(first, 0) == HASH {

@@ -8,7 +8,7 @@ const MOST_SHOWN: usize = 65536;
 // How many bytes of hex stand in a row.
 pub const ROW: usize = 16;
 
-pub fn text(letters: &[u8]) {
+pub(crate) fn text(letters: &[u8]) {
     if !io::write_all(STDOUT_FILENO, letters) {
         os::fail(b"session: standard output");
     }
@@ -21,7 +21,7 @@ fn decimal(n: u64) {
 }
 
 // A space and a number.
-pub fn field(n: u64) {
+pub(crate) fn field(n: u64) {
     text(b" ");
     decimal(n);
 }
@@ -65,7 +65,7 @@ fn row(bytes: &[u8]) {
 }
 
 // Bytes in hex: on the line that has begun where they are few, else in rows, each behind its offset.
-pub fn rows(bytes: &[u8]) {
+pub(crate) fn rows(bytes: &[u8]) {
     if bytes.len() <= ROW {
         return row(bytes);
     }
@@ -81,12 +81,12 @@ pub fn rows(bytes: &[u8]) {
 }
 
 // The refusal number of an answer word, 0 where nothing was refused.
-pub fn refusal(word: u64) -> u64 {
+pub(crate) fn refusal(word: u64) -> u64 {
     word / 256 % 256
 }
 
 // The answer of a call that answers no byte.
-pub fn answer(word: u64) {
+pub(crate) fn answer(word: u64) {
     let why = refusal(word);
     if why == 0 {
         return text(b"ok\n");
@@ -97,7 +97,7 @@ pub fn answer(word: u64) {
 }
 
 // The refusal of one of several bytes, counted from 1.
-pub fn refused_at(word: u64, number: usize) {
+pub(crate) fn refused_at(word: u64, number: usize) {
     text(b"refused");
     field(refusal(word));
     text(b" at byte");

@@ -62,7 +62,7 @@ fn totals(table: &[u8]) {
     text(b"\n");
 }
 
-pub fn disk(table: &[u8]) {
+pub(crate) fn disk(table: &[u8]) {
     totals(table);
     let mut left = fields::byte(table, 0);
     let mut at: usize = 1;

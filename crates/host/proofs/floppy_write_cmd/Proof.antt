@@ -1,6 +1,6 @@
-use Rattle.host.proofs.Answers.{put-long, mid-long, here-long, sent-bad, sent-good}
+use Rattle.host.proofs.Answers.{here-long, sent-bad, sent-good}
 use native.Mathlib.Omega.{arith}
-use Prim.Native.Nat.{_-_}
+use borrow.Rule.Slice.PartMut.{same-len-mid}
 use borrow.Author.Needs.{needs}
 use Rattle.host.proofs.floppy_write_cmd.Statement.{statement}
 use Rattle.host.proofs.floppy_write_cmd.Tie as tie
@@ -27,14 +27,10 @@ part-write-cmd-start : tie.Need-part-write-cmd-start
 part-write-cmd-start c = omega (arith, here-long _ _ (c .before .before .before .formed .ensures) (c .before .before .if1 .left))
 
 part-write-cmd-end : tie.Need-part-write-cmd-end
-part-write-cmd-end c = search needs
+part-write-cmd-end c = omega (arith, here-long _ _ (c .before .before .before .formed .ensures) (c .before .before .if1 .left))
 
 write-cmd-requires : tie.Need-write-cmd-requires
-write-cmd-requires c κs =
-    let args = c .before .before .before .before .before .before .before .before .before .before .before .before .before .args in
-    let formed = c .before .before .before .before .before .before .before .formed in
-    let if1 = c .before .before .before .before .before .before .if1 in
-    mid-long (args .controller .now) (here-long _ _ (formed .ensures) (if1 .left))
+write-cmd-requires c κs = search needs
 
 settle-requires : tie.Need-settle-requires
 settle-requires c κs =
@@ -42,7 +38,8 @@ settle-requires c κs =
     let formed = c .before .before .before .before .before .before .before .before .before .before .before .before .before .before .before .before .before .formed in
     let if1 = c .before .before .before .before .before .before .before .before .before .before .before .before .before .before .before .before .if1 in
     let write-cmd = c .before .before .before .before .before .before .before .before .before .write-cmd in
-    put-long (args .controller .now) (write-cmd .last .1 .1 .0) (here-long _ _ (formed .ensures) (if1 .left)) (write-cmd .kept .1 .1 .0)
+    let kept = write-cmd .kept .1 .1 .0 in
+    rw same-len-mid (here-long _ _ (formed .ensures) (if1 .left))
 
 same-length-2 : tie.Need-same-length-2
 same-length-2 c = search needs
