@@ -11,10 +11,11 @@ use Rattle.store.specs.Store.{tableOf, dataOf}
 use Rattle.codes.specs.declared.command.Command.{Command}
 use Rattle.registers.specs.declared.regs.Regs.{Regs}
 use Rattle.registers.specs.declared.regs.Written.{Written}
-use Rattle.registers.specs.Boxes.{Response, Stay, Reply, ReplyIfNone, Seeking, Interrupt, Serve, Effect, Sent}
-use Rattle.registers.specs.View.{settingOf, writingOf, drivesOf, namedIn}
+use Rattle.registers.specs.Boxes.{Response, Stay, Reply, ReplyIfNone, Seeking, Interrupt, Serve, Effect, Sent, World}
+use Rattle.registers.specs.View.{settingOf, writingOf, drivesOf, namedIn, worldOf}
 use Rattle.registers.specs.Settle.{declined, regsTaken, heldTaken, regsOf}
 use Rattle.commands.specs.Commands.{byte, readData, formatTrack, written, obeyed}
+use Rattle.registers.specs.declared.regs.Receipt.the-variants as receipt
 
 -- a disk that is put is laid over what was there
 abbrev pub tableWith : Option Disk → List ℕ → List ℕ
@@ -84,3 +85,8 @@ leftOf (refused why) r h t b x = left (declined why r) h t b x
 leftOf (good s) r h t b x =
     left (regsOf (good (s .effect)) (regsTaken (s .taking) r)) (heldTaken (s .taking) r h)
     (tableWith (s .effect .put) t) (dataWith (s .effect .put) b) (transferWith (s .effect .response) x)
+
+-- what a byte leaves, seen: a refusal, with every byte as it came; or the boxes then
+abbrev pub Sees : Regs → List ℕ → List ℕ → List ℕ → List ℕ → Left → Result World → Type 0
+Sees r h t b x y (refused why) = y ≡ left (declined why r) h t b x
+Sees r h t b x (left a h′ t′ b′ x′) (good w) = (a .receipt ≡ receipt.Good) × (worldOf (a .regs) h′ t′ b′ x′ ≡ w)

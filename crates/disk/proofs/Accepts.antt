@@ -21,7 +21,7 @@ use Rattle.store.specs.declared.answer.Done.the-variants as done
 use Rattle.store.proofs.Rounds.{laid-back}
 use Rattle.store.proofs.Leaves.{fitting-accepted, fitting-left}
 use Rattle.disk.specs.Change.{change, withContent, savedIn, saved, setTrack}
-use Rattle.disk.specs.Calls.{setOf, saveFound, saveIn, saveOf}
+use Rattle.disk.specs.Calls.{setOf, saveFound, saveIn, saveOf, Altered}
 use Rattle.disk.specs.declared.answer.Saved.the-variants as saving
 use Rattle.disk.proofs.Holds.{fits}
 use Rattle.disk.proofs.Cuts.{change-length}
@@ -64,12 +64,6 @@ module _ (t b : List ℕ) (d : Disk) (e : diskOf t b ≡ good d) where
       h
 
 -- ---- what a call leaves
-
--- a store that held a disk, and holds it changed now
-pub record Altered (f : Disk → Disk) (t b t′ b′ : List ℕ) : Type 0 where
-  pub before : Disk
-  pub held : diskOf t b ≡ good before
-  pub holds : diskOf t′ b′ ≡ good (f before)
 
 -- so of a store whose disk is known
 pub altered-is : (f : Disk → Disk) (t b t′ b′ : List ℕ) (d : Disk) → diskOf t b ≡ good d → Altered f t b t′ b′ → diskOf t′ b′ ≡ good (f d)

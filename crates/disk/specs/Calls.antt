@@ -1,4 +1,5 @@
 -- What the public calls answer and leave, in terms of the disk that the store holds.
+use mathlib.Core.Path.{_≡_}
 use Prim.Native.Nat.{ℕ}
 use mathlib.Core.List.{List, [], _∷_}
 use mathlib.Core.Bool.{cond}
@@ -79,3 +80,9 @@ filledFrom x side cylinder id eot (good d) = filledOf x (readAt d side cylinder 
 -- read: 2, missing, 9, or what Read Data reads
 unfoldable pub readOf : List ℕ → List ℕ → ℕ → ℕ → SectorId → ℕ → List ℕ → Filled
 readOf t b side cylinder id eot x = filledFrom x side cylinder id eot (diskOf t b)
+
+-- a store that held a disk, and holds it changed now
+pub record Altered (f : Disk → Disk) (t b t′ b′ : List ℕ) : Type 0 where
+  pub before : Disk
+  pub held : diskOf t b ≡ good before
+  pub holds : diskOf t′ b′ ≡ good (f before)

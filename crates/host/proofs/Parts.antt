@@ -4,33 +4,20 @@ use mathlib.Core.Logic.{_↔_}
 use Prim.Native.Nat.{ℕ, _+_, _-_, _/_, _%_, _^_, _≤_}
 use native.Mathlib.Omega.{arith}
 use mathlib.Core.List.{List}
-use lib.ListN.{length, take, drop}
+use lib.ListN.{length}
 use Rattle.fields.specs.Refusals.{Result, refused, good}
 use Rattle.fields.specs.Capacities.{mostData}
 use Rattle.fields.specs.Model.{Disk}
 use Rattle.fields.specs.declared.id.SectorId.{SectorId}
-use Rattle.fields.specs.declared.refusal.Refusal.{Refusal}
 use Rattle.fields.proofs.Tests.{never}
 use Rattle.store.specs.Store.{diskOf}
-use Rattle.store.specs.Find.{nothing}
-use Rattle.store.specs.Search.{sectorAt}
 use Rattle.store.specs.Calls.{lookupOf}
 use Rattle.store.specs.Spots.{standsAt, searched, placeOf}
 use Rattle.store.specs.declared.find.Place.{Place}
 use Rattle.store.specs.declared.find.Place.the-variants as place
 use Rattle.store.proofs.Founds.{located, said-bytes, part-in, part-bytes}
-use Rattle.host.specs.Calls.{partWord, partOn}
+use Rattle.host.specs.Calls.{partWord, partOn, partNamed, NoPart, no-disk, no-sector, no-bytes}
 use Rattle.host.proofs.Answers.{part-few}
-
--- the part of a list that a word names: the place in bits 32 to 63, the length in bits 0 to 31
-abbrev pub named : ℕ → List ℕ → List ℕ
-named w b = take (w % 2 ^ 32) (drop (w / 2 ^ 32) b)
-
--- where no part is named: 2 applies, no sector is found, or the one that is found has no bytes and stands at place 0
-pub data NoPart (t b : List ℕ) (side cylinder : ℕ) (id : SectorId) : Type 0 where
-  no-disk : (why : Refusal) → diskOf t b ≡ refused why → NoPart t b side cylinder id
-  no-sector : (d : Disk) → diskOf t b ≡ good d → sectorAt d side cylinder id ≡ nothing → NoPart t b side cylinder id
-  no-bytes : (index row end : ℕ) → placeOf t b side cylinder id ≡ place.Part index row 0 0 end → NoPart t b side cylinder id
 
 module _ (t b : List ℕ) (side cylinder : ℕ) (id : SectorId) where
   -- the two numbers of the word of a part
@@ -45,11 +32,11 @@ module _ (t b : List ℕ) (side cylinder : ℕ) (id : SectorId) where
     word-many = omega (arith, few)
 
   -- The part of the data that the word of `disk_sector` names is what `lookup` answers, whatever the table and the data are.
-  pub sector-lookup : named (partOn t b side cylinder id) b ≡ lookupOf (diskOf t b) side cylinder id
+  pub sector-lookup : partNamed (partOn t b side cylinder id) b ≡ lookupOf (diskOf t b) side cylinder id
   unfolding partOn
   sector-lookup = told (placeOf t b side cylinder id) refl
     where
-      told : (p : Place) → p ≡ placeOf t b side cylinder id → named (partWord p) b ≡ lookupOf (diskOf t b) side cylinder id
+      told : (p : Place) → p ≡ placeOf t b side cylinder id → partNamed (partWord p) b ≡ lookupOf (diskOf t b) side cylinder id
       told (place.Refused why) e = said-bytes t b side cylinder id (place.Refused why) e (place.Refused why) refl
       told place.Nothing e = said-bytes t b side cylinder id place.Nothing e place.Nothing refl
       told (place.Part index row from to end) e =

@@ -22,10 +22,10 @@ use Rattle.floppy.specs.declared.Floppy.{Floppy}
 use Rattle.floppy.specs.declared.Shown.{Shown}
 use Rattle.floppy.specs.declared.Changed.{Changed}
 use Rattle.floppy.specs.Calls.{shownAs, changedAs, Wrote, wrote, wroteAs, statusCall, readCall, writeCall}
-use Rattle.layout.specs.Layout.{controllerLength, flagByte, seekByte, numbersFor, floppyBytes, formed, regsIn}
+use Rattle.layout.specs.Layout.{controllerLength, flagByte, seekByte, numbersFor, floppyBytes, formed, regsIn, Fitting}
 use Rattle.words.specs.Words.{byteWord, flagWord, doneWord, receiptWord}
 use Rattle.host.specs.Calls.{motorOn, trackOn, diskOn, Answered, answered, toldOn, switchedOn, setMotorOn, setDiskOn, statusOn, readOn, Sending, sending, postedOn, writeOn}
-use Rattle.layout.proofs.Inverse.{Fitting, read-back}
+use Rattle.layout.proofs.Inverse.{read-back}
 
 -- ---- an answer by value, as words and bytes
 

@@ -1,12 +1,18 @@
 -- What each exported call answers and leaves, on the bytes that are lent. A refusal leaves every one of them.
-use Prim.Native.Nat.{ℕ, _+_, _-_, _*_, _^_}
+use mathlib.Core.Path.{_≡_}
+use Prim.Native.Nat.{ℕ, _+_, _-_, _*_, _^_, _/_, _%_}
 use mathlib.Core.Bool.{Bool, cond}
 use mathlib.Core.List.{List}
-use lib.ListN.{length}
+use lib.ListN.{length, take, drop}
 use lib.Dec.{eqb}
+use Rattle.fields.specs.declared.refusal.Refusal.{Refusal}
+use Rattle.fields.specs.Model.{Disk}
 use Rattle.fields.specs.Refusals.{Result, refused, good}
 use Rattle.fields.specs.declared.id.SectorId.{SectorId}
 use Rattle.fields.specs.declared.refusal.Refusal.the-variants.{BadController}
+use Rattle.store.specs.Search.{sectorAt}
+use Rattle.store.specs.Find.{nothing}
+use Rattle.store.specs.Store.{diskOf}
 use Rattle.store.specs.Spots.{placeOf}
 use Rattle.store.specs.Calls.{Outcome, outcome}
 use Rattle.store.specs.declared.find.Place.{Place}
@@ -131,3 +137,13 @@ partWord (place.Part index row from to end) = from * 2 ^ 32 + (to - from)
 -- `disk_sector`
 unfoldable pub partOn : List ℕ → List ℕ → ℕ → ℕ → SectorId → ℕ
 partOn t b side cylinder id = partWord (placeOf t b side cylinder id)
+
+-- the part of a list that a word names: the place in bits 32 to 63, the length in bits 0 to 31
+abbrev pub partNamed : ℕ → List ℕ → List ℕ
+partNamed w b = take (w % 2 ^ 32) (drop (w / 2 ^ 32) b)
+
+-- where no part is named: 2 applies, no sector is found, or the one that is found has no bytes and stands at place 0
+pub data NoPart (t b : List ℕ) (side cylinder : ℕ) (id : SectorId) : Type 0 where
+  no-disk : (why : Refusal) → diskOf t b ≡ refused why → NoPart t b side cylinder id
+  no-sector : (d : Disk) → diskOf t b ≡ good d → sectorAt d side cylinder id ≡ nothing → NoPart t b side cylinder id
+  no-bytes : (index row end : ℕ) → placeOf t b side cylinder id ≡ place.Part index row 0 0 end → NoPart t b side cylinder id

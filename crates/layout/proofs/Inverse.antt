@@ -13,7 +13,7 @@ use Rattle.fields.proofs.Tests.{and-fst, and-snd}
 use Rattle.registers.specs.declared.regs.Regs.{Regs}
 use Rattle.registers.specs.declared.regs.Seek.{Seek}
 use Rattle.registers.specs.declared.regs.Seek.the-variants.{Idle, Running, Done}
-use Rattle.layout.specs.Layout.{controllerLength, flagByte, seekByte, partFor, numbersFor, flagAt, seekAt, regsAt, heldAt, formed}
+use Rattle.layout.specs.Layout.{controllerLength, flagByte, seekByte, partFor, numbersFor, flagAt, seekAt, regsAt, heldAt, formed, Fitting}
 use Rattle.layout.proofs.Images.{formed-long}
 
 -- ---- one by one
@@ -41,15 +41,6 @@ bytes-are (suc n) k x h =
     rw e (ap (λ (z : List ℕ). byteAt x k ∷ z) (bytes-are n (suc k) x (omega (arith, h)))) ∙ sym (drop-cons x k 0 (omega (arith, h)))
 
 -- ---- the registers, written and read
-
--- registers whose numbers fit the fields of their types, as those of every controller do
-pub record Fitting (r : Regs) : Type 0 where
-  pub nine : length (r .command) ≡ 9
-  pub seven : length (r .reply) ≡ 7
-  pub from-fits : r .from < 4294967296
-  pub until-fits : r .until < 4294967296
-  pub index-fits : r .index < 65536
-  pub taken-fits : r .write .taken < 65536
 
 pub read-back : (r : Regs) (rest : List ℕ) → Fitting r → regsAt (numbersFor r rest) ≡ r
 unfolding regsAt numbersFor numberAt

@@ -1,5 +1,6 @@
 -- The controller as bytes: 42 bytes of numbers, then the 1,024 held bytes of a write. docs/HOST.md has the same as a table.
-use Prim.Native.Nat.{ℕ, zero, suc, _+_, _/_, _%_}
+use mathlib.Core.Path.{_≡_}
+use Prim.Native.Nat.{ℕ, zero, suc, _+_, _/_, _%_, _<_}
 use mathlib.Core.Bool.{Bool, true, false, not, _&&_}
 use mathlib.Core.List.{List, [], _∷_}
 use lib.ListN.{length, drop}
@@ -129,3 +130,12 @@ formed l =
 -- the registers that are in these bytes; 1 where no controller has them
 unfoldable pub regsIn : List ℕ → Result Regs
 regsIn l = need (formed l) BadController (good (regsAt l))
+
+-- registers whose numbers fit the fields of their types, as those of every controller do
+pub record Fitting (r : Regs) : Type 0 where
+  pub nine : length (r .command) ≡ 9
+  pub seven : length (r .reply) ≡ 7
+  pub from-fits : r .from < 4294967296
+  pub until-fits : r .until < 4294967296
+  pub index-fits : r .index < 65536
+  pub taken-fits : r .write .taken < 65536

@@ -26,17 +26,17 @@ use Rattle.floppy.specs.declared.Floppy.{Floppy}
 use Rattle.floppy.specs.declared.Shown.{Shown}
 use Rattle.floppy.specs.declared.Changed.{Changed}
 use Rattle.floppy.specs.Calls.{changedAs, Wrote, wrote, statusCall, readCall, writeCall}
-use Rattle.layout.specs.Layout.{regsAt, floppyBytes}
-use Rattle.layout.proofs.Images.{formed-long}
-use Rattle.layout.proofs.Inverse.{Fitting, read-back, held-back, written-back}
-use Rattle.words.specs.Words.{byteWord, flagWord, doneWord, receiptWord, refusalWord}
-use Rattle.host.specs.Calls.{Answered, answered}
-use Rattle.host.proofs.Same.{shownWord, changedWord, wroteWord, motor-same, track-same, disk-same, status-same, read-same, set-motor-same, set-disk-same, write-same}
 use Rattle.saves.specs.Events.{Question, motorOn?, whichTrack?, diskIn?, Event, poll, read, send, ask, switch, swap, widen}
 use Rattle.saves.specs.Events.{Answer, showed, gave, stood, run}
 use Rattle.runs.specs.Hosts.{Host, withFloppy, byteSaid, flagSaid, doneSaid, receiptSaid, ifSwapped, askedIn, afterShown, afterChanged, afterSwapped, afterWrote, called, Sound}
 use Rattle.runs.proofs.Follows.{follows}
 use Rattle.runs.proofs.Steps.{agrees}
+use Rattle.layout.specs.Layout.{regsAt, floppyBytes, Fitting}
+use Rattle.layout.proofs.Images.{formed-long}
+use Rattle.layout.proofs.Inverse.{read-back, held-back, written-back}
+use Rattle.words.specs.Words.{byteWord, flagWord, doneWord, receiptWord, refusalWord}
+use Rattle.host.specs.Calls.{Answered, answered}
+use Rattle.host.proofs.Same.{shownWord, changedWord, wroteWord, motor-same, track-same, disk-same, status-same, read-same, set-motor-same, set-disk-same, write-same}
 use Rattle.lending.specs.Lendings.{Lending, passes, swappedOn, afterAnswered, afterSending, askedOn, exported, wordOf, hostAt, lendingOf, Formed}
 
 -- ---- numbers that fit the fields of the layout

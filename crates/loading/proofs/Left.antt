@@ -13,15 +13,9 @@ use Rattle.fields.proofs.Tests.{never}
 use Rattle.image.specs.Dsk.{Dsk, dskOf}
 use Rattle.store.specs.Store.{tableLength, roomOf, diskOf}
 use Rattle.store.specs.Fresh.{fresh}
-use Rattle.store.specs.Calls.{outcome, laid, fitting, loadOf, freshOf}
+use Rattle.store.specs.Calls.{outcome, laid, fitting, loadOf, freshOf, Loaded}
 use Rattle.store.specs.declared.answer.Done.the-variants as done
 use Rattle.store.proofs.Leaves.{fitting-left}
-
--- the image that was loaded, and that the store holds its disk
-pub record Loaded (image t b : List ℕ) : Type 0 where
-  pub dsk : Dsk
-  pub read : dskOf image ≡ good dsk
-  pub holds : diskOf t b ≡ good (dsk .disk)
 
 module _ (t b t′ b′ : List ℕ) where
   -- a success has passed the test of the table's length

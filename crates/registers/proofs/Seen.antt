@@ -5,7 +5,6 @@ use native.Mathlib.Omega.{arith}
 use native.Mathlib.Numerals.{add-one}
 use mathlib.Core.Bool.{Bool, true, false}
 use mathlib.Core.List.{List, [], _∷_}
-use mathlib.Core.Option.{some}
 use lib.ListN.{length, getD, take, drop, drop-of-length-le}
 use lib.Seq.{slice, slice-cons, length-take-le}
 use lib.Dec.{eqb, ltb}
@@ -15,13 +14,11 @@ use Rattle.store.specs.Store.{diskOf}
 use Rattle.store.specs.declared.answer.Done.the-variants as finished
 use Rattle.registers.specs.declared.regs.Regs.{Regs}
 use Rattle.registers.specs.declared.regs.Pending.{Pending}
-use Rattle.registers.specs.declared.regs.Told.{Told}
-use Rattle.registers.specs.declared.regs.Switched.{Switched}
 use Rattle.registers.specs.declared.regs.Byte.the-variants as byte
 use Rattle.registers.specs.declared.regs.Flag.the-variants as flag
 use Rattle.registers.specs.Boxes.{Slot, World}
 use Rattle.registers.specs.Ports.{settled, some?, on?, status, Poll, Stays, Counts, Drops, pollBy, polled, settledIn, afterStatus, Source, Bytes, Replies, Neither, sourceBy, given, readFrom, portByte, afterRead, setMotor, changeDisk}
-use Rattle.registers.specs.View.{slotIf, slotOf, writingIf, insideOf, frontOf, worldOf, impossibleIn}
+use Rattle.registers.specs.View.{slotIf, slotOf, writingIf, insideOf, frontOf, worldOf, impossibleIn, Shows, Leaves}
 use Rattle.registers.specs.Settle.{sought}
 use Rattle.registers.specs.Calls.{statusOf, regsPolled, afterStatusOf, statusRead, sourceOf, byteFrom, regsRead, dataRead, motorSet, diskSet, motorOf, currentTrack}
 use Rattle.registers.proofs.Numbers.{possible, possible-in, until-long, count-few}
@@ -65,10 +62,6 @@ module _ (r : Regs) (h t b x : List ℕ) (ok : impossibleIn x r ≡ false) (long
 
   has-write : on? (writingIf (r .write .on) (r .write) h) ≡ r .write .on
   has-write = on-writing (r .write .on) (r .write) h
-
-  -- ---- a call that answers a byte, seen: the byte, and the boxes then
-  abbrev pub Shows : Told → ℕ → World → Type 0
-  Shows a n w = (a .answer ≡ byte.Of n) × (worldOf (a .regs) h t b x ≡ w)
 
   -- ---- Status read
 
@@ -116,7 +109,7 @@ module _ (r : Regs) (h t b x : List ℕ) (ok : impossibleIn x r ≡ false) (long
       }
 
   -- a status read answers the status and leaves the boxes after it
-  pub status-seen : Shows (statusRead r) (status W) (afterStatus W)
+  pub status-seen : Shows h t b x (statusRead r) (status W) (afterStatus W)
   unfolding statusRead
   status-seen = rw (possible-in x r ok) (ap byte.Of status-is, status-after)
 
@@ -159,7 +152,7 @@ module _ (r : Regs) (h t b x : List ℕ) (ok : impossibleIn x r ≡ false) (long
   read-inside Neither = refl
 
   -- a read of the data port answers the byte that is due and leaves the boxes after it
-  pub read-seen : Shows (dataRead r x) (portByte W) (afterRead W)
+  pub read-seen : Shows h t b x (dataRead r x) (portByte W) (afterRead W)
   unfolding dataRead portByte afterRead
   read-seen =
       let d : Due (sourceOf r) = due (ltb (r .from) (r .until)) (ltb (r .place) (r .fill)) refl refl in
@@ -169,16 +162,12 @@ module _ (r : Regs) (h t b x : List ℕ) (ok : impossibleIn x r ≡ false) (long
 
   -- ---- Motor, track and disk
 
-  -- a change, seen
-  abbrev pub Leaves : Switched → World → List ℕ → List ℕ → Type 0
-  Leaves a w t′ b′ = (a .done ≡ finished.Good) × (worldOf (a .regs) h t′ b′ x ≡ w)
-
-  pub motor-seen : (on : Bool) → Leaves (motorSet on r) (setMotor on W) t b
+  pub motor-seen : (on : Bool) → Leaves h t b x (motorSet on r) (setMotor on W)
   unfolding motorSet setMotor insideOf frontOf
   motor-seen on = rw (possible-in x r ok) (refl, refl)
 
   -- another disk is that of the store which is lent from then on
-  pub disk-seen : (present : Bool) (t′ b′ : List ℕ) → Leaves (diskSet present r) (changeDisk (slotIf present (diskOf t′ b′)) W) t′ b′
+  pub disk-seen : (present : Bool) (t′ b′ : List ℕ) → Leaves h t′ b′ x (diskSet present r) (changeDisk (slotIf present (diskOf t′ b′)) W)
   unfolding diskSet changeDisk insideOf frontOf
   disk-seen present t′ b′ = rw (possible-in x r ok) (refl, refl)
 

@@ -1,4 +1,5 @@
 -- The controller's numbers and the lent buffers, seen as boxes; and the numbers that no controller has.
+use mathlib.Core.Path.{_≡_}
 use Prim.Native.Nat.{ℕ}
 use mathlib.Core.Bool.{Bool, true, false, not, _||_, _&&_}
 use mathlib.Core.List.{List}
@@ -13,6 +14,10 @@ use Rattle.registers.specs.declared.regs.Regs.{Regs}
 use Rattle.registers.specs.declared.regs.Pending.{Pending}
 use Rattle.registers.specs.Boxes.{Setting, Slot, Empty, Holds, Drives, Writing, Inside, Front, World, fitted, Named, named}
 use Rattle.codes.specs.Table.{commandOf, bytesFor}
+use Rattle.store.specs.declared.answer.Done.the-variants as done
+use Rattle.registers.specs.declared.regs.Told.{Told}
+use Rattle.registers.specs.declared.regs.Switched.{Switched}
+use Rattle.registers.specs.declared.regs.Byte.the-variants as byte
 
 -- ---- The boxes
 
@@ -67,6 +72,16 @@ frontOf r x = record {
 -- the controller, its held bytes, the table, the data and the transfer buffer, seen as boxes
 abbrev pub worldOf : Regs → List ℕ → List ℕ → List ℕ → List ℕ → World
 worldOf r h t b x = record { inside = insideOf r h (slotOf r t b); front = frontOf r x }
+
+-- ---- Calls, seen
+
+-- one that answers a byte: the byte, and the boxes then
+abbrev pub Shows : List ℕ → List ℕ → List ℕ → List ℕ → Told → ℕ → World → Type 0
+Shows h t b x a n w = (a .answer ≡ byte.Of n) × (worldOf (a .regs) h t b x ≡ w)
+
+-- one that switches the motor or changes the disk: that it was done, and the boxes then
+abbrev pub Leaves : List ℕ → List ℕ → List ℕ → List ℕ → Switched → World → Type 0
+Leaves h t b x a w = (a .done ≡ done.Good) × (worldOf (a .regs) h t b x ≡ w)
 
 -- ---- Refusal 1
 

@@ -28,11 +28,11 @@ use Rattle.registers.proofs.Numbers.{possible, possible-in, taken-few, count-fe
 use Rattle.registers.proofs.Kept.{Small, Lawful, lawful-so, so-lawful, lawful-wider, Short, kept-status, kept-read, kept-motor, kept-disk, kept-part, kept-last, kept-held, kept-ended, kept-changes, kept-response}
 use Rattle.registers.proofs.Seen.{status-seen, read-seen, motor-seen, disk-seen, motor-told, track-told}
 use Rattle.commands.specs.Commands.{obeyed, written}
-use Rattle.commands.specs.Lent.{tableWith, dataWith, transferWith, Left, leftOf}
+use Rattle.commands.specs.Lent.{tableWith, dataWith, transferWith, Left, leftOf, Sees}
 use Rattle.sending.specs.Machine.{sends, clearing, commandIf, commandByte, dataIf, dataByte, sent, done, writePort}
 use Rattle.sending.specs.Calls.{dataWrite}
 use Rattle.sending.proofs.Sends.{all-first, all-length, sent-right, sent-data, sent-command}
-use Rattle.sending.proofs.Seen.{Sees, write-seen, disk-told}
+use Rattle.sending.proofs.Seen.{write-seen, disk-told}
 use Rattle.floppy.specs.Calls.{wroteAs}
 use Rattle.saves.specs.Events.{Question, motorOn?, whichTrack?, diskIn?, Event, poll, read, send, ask, switch, swap, widen, Answer, showed, gave, took, stood, denied, Next}
 use Rattle.saves.specs.Stages.{Stage, sentOn, answerTo, acted}
@@ -268,7 +268,7 @@ module _ (k : Host) (s : Sound k) where
     port-as y e = ap (λ (z : Result Sent). after z (λ v. good (done (seen k) v))) e
 
     abbrev SeesAs : Left → Result World → Type 0
-    SeesAs l v = Sees R b H (k .table) (k .bytes) (k .transfer) (s .possible) (s .nine) (s .seven) (s .held) l v
+    SeesAs l v = Sees R H (k .table) (k .bytes) (k .transfer) l v
 
     then-seen : (y : Sent) → sent (lent k) I b ≡ good y → seen (Then y) ≡ done (seen k) y
     unfolding leftOf regsOf

@@ -31,7 +31,7 @@ use Rattle.registers.specs.declared.regs.Regs.{Regs}
 use Rattle.registers.specs.declared.regs.Pending.{Pending}
 use Rattle.registers.specs.declared.regs.Seek.{Seek}
 use Rattle.registers.specs.declared.regs.Seek.the-variants.{Idle, Running, Done}
-use Rattle.registers.specs.Boxes.{Setting, Slot, Holds, Drives, Writing, Inside, World, fitted, namedIf, named, seven, withCommand, withWrite, withSlot, holdingIn}
+use Rattle.registers.specs.Boxes.{Setting, Slot, Holds, Drives, Writing, Inside, fitted, namedIf, named, seven, withCommand, withWrite, withSlot, holdingIn}
 use Rattle.registers.specs.Boxes.{Taking, Add, Hold, Change, Clear, MoveTo, Turn, Start, Finish, Response, Stay, Reply, ReplyIfNone, Seeking, Interrupt, Serve, Effect, Sent}
 use Rattle.registers.specs.Boxes.{taken, changed, allChanged, putIn, withReply, ifNone, interrupted, responded}
 use Rattle.codes.specs.Table.{commandOf, bytesFor}
@@ -43,7 +43,7 @@ use Rattle.registers.proofs.Numbers.{possible, possible-in, count-few, taken-fe
 use Rattle.codes.specs.Second.{u, headOf}
 use Rattle.commands.specs.Commands.{byte, idOf, ready, whenReady, puts, seekTo, readData, writeData, readId, writeReply, saveAt, written, formatOf, formatTrack, obeyed}
 use Rattle.sending.specs.Machine.{sends, commandIf, commandByte, dataIf, dataByte, sent, done, writePort}
-use Rattle.commands.specs.Lent.{tableWith, dataWith, transferWith, Left, left, leftOf}
+use Rattle.commands.specs.Lent.{tableWith, dataWith, transferWith, left, leftOf, Sees}
 use Rattle.sending.specs.Calls.{dataWrite}
 use Rattle.commands.proofs.Runs.{Unput, quiet-seek, quiet-id, quiet-write, unput-read}
 use Rattle.sending.proofs.Sends.{wrong-length, wrong-numbers, write-wrong, sent-right, sent-data, sent-command}
@@ -291,12 +291,7 @@ unfolding dataByte
 data-takes s b w d = sends-takes (Hold b) (dataIf (eqb (length (w .held)) (sizeOf (w .id .n))) s w d)
 
 module _ (r : Regs) (b : ℕ) (h t d x : List ℕ) (ok : impossibleIn x r ≡ false) (nine : length (r .command) ≡ 9) (seven : length (r .reply) ≡ 7) (held : length h ≡ mostHeld) where
-  -- what a byte leaves, seen: a refusal, with every byte as it came; or the boxes then
-  abbrev pub Sees : Left → Result World → Type 0
-  Sees y (refused why) = y ≡ left (declined why r) h t d x
-  Sees (left a h′ t′ d′ x′) (good w) = (a .receipt ≡ receipt.Good) × (worldOf (a .regs) h′ t′ d′ x′ ≡ w)
-
-  seen-byte : (e : Result Sent) (k : Taking) → Fits k r h → Takes k e → LaysS r t d e → Sees (leftOf e r h t d x) (after e (λ s. good (done (worldOf r h t d x) s)))
+  seen-byte : (e : Result Sent) (k : Taking) → Fits k r h → Takes k e → LaysS r t d e → Sees r h t d x (leftOf e r h t d x) (after e (λ s. good (done (worldOf r h t d x) s)))
   unfolding leftOf regsOf done insideOf
   seen-byte (refused why) k g q l = refl
   seen-byte (good s) k g q l =
@@ -318,7 +313,7 @@ module _ (r : Regs) (b : ℕ) (h t d x : List ℕ) (ok : impossibleIn x r ≡ fa
       = seen-response sh r₂ x (same .few (possible r (possible-in x r ok) .fill-in)) (same .long seven) ∙ ap (responded sh) (same .front x) in
       (refl, λ n. record { inside = (j ∙ sym m ∙ ap (putIn (s .effect .put)) i) n; front = f n })
 
-  seen-sent : (f : Bool) → r .write .on ≡ f → Sees (leftOf (sent (settingOf d x) (insideOf r h (slotOf r t d)) b) r h t d x) (writePort (settingOf d x) (worldOf r h t d x) b)
+  seen-sent : (f : Bool) → r .write .on ≡ f → Sees r h t d x (leftOf (sent (settingOf d x) (insideOf r h (slotOf r t d)) b) r h t d x) (writePort (settingOf d x) (worldOf r h t d x) b)
   unfolding writePort
   seen-sent true e =
       let g : r .write .taken < length h = omega (arith, taken-few (r .write) (possible r (possible-in x r ok) .write-in) e, size-most (r .write .id .n)) in
@@ -328,10 +323,10 @@ module _ (r : Regs) (b : ℕ) (h t d x : List ℕ) (ok : impossibleIn x r ≡ fa
       seen-byte (sent (settingOf d x) (insideOf r h (slotOf r t d)) b) (Add b) g (subst (Takes (Add b)) (sent-command r b h t d x e) (command-takes _ b _ _ _)) (sent-lays r t d x h b)
 
   -- a byte sent leaves what the machine's step says of the boxes seen
-  pub write-seen : Sees (dataWrite r b h t d x) (writePort (settingOf d x) (worldOf r h t d x) b)
+  pub write-seen : Sees r h t d x (dataWrite r b h t d x) (writePort (settingOf d x) (worldOf r h t d x) b)
   unfolding dataWrite
   write-seen =
-      subst (λ (z : Result Sent). Sees (leftOf z r h t d x) (writePort (settingOf d x) (worldOf r h t d x) b)) (sent-right r b h t d x ok held) (seen-sent (r .write .on) refl)
+      subst (λ (z : Result Sent). Sees r h t d x (leftOf z r h t d x) (writePort (settingOf d x) (worldOf r h t d x) b)) (sent-right r b h t d x ok held) (seen-sent (r .write .on) refl)
 
 -- numbers that no controller has, and held bytes of another length, are refusal 1, and change nothing
 module _ (r : Regs) (b : ℕ) (h t d x : List ℕ) where

@@ -7,7 +7,6 @@ use mathlib.Core.Logic.{_⊎_, inl, inr}
 use mathlib.Core.Option.{none}
 use lib.ListN.{length}
 use lib.Dec.{leb}
-use Rattle.buffer.specs.Over.{over}
 use Rattle.fields.specs.Refusals.{Result, refused, good, need, after}
 use Rattle.fields.specs.Model.{Sector, Disk}
 use Rattle.fields.specs.declared.refusal.Refusal.the-variants.{BadController, NoTransferRoom}
@@ -31,28 +30,10 @@ use Rattle.registers.specs.Settle.{regsWithMotor, regsWithDrive}
 use Rattle.commands.specs.Commands.{byte, idOf, does, notReady, whenReady, seekTo, servedAs, readData, writeData, written, readId, formatTrack, obeyed}
 use Rattle.commands.specs.Lent.{transferWith, left, leftOf}
 use Rattle.commands.proofs.Runs.{StillS, Still, quiet-seek, quiet-id, quiet-write, still-format, still-written}
+use Rattle.sending.specs.Reads.{EndsRead, Refilled}
 use Rattle.sending.specs.Machine.{sent, done, writePort}
 use Rattle.sending.specs.Calls.{impossibleWith, sentTo, dataWrite}
 use Rattle.sending.proofs.Every.{OfEffect, OfSent, of-this}
-
--- ---- the byte that ends a read
-
--- The byte b makes a Read Data or Read Deleted whole, no write is in progress, the drive that it names holds a disk on which the search finds
--- sectors, and `bytes` are their contents.
-pub record EndsRead (i : Inside) (b : ℕ) (bytes : List ℕ) : Type 0 where
-  -- the command with this byte
-  pub command : List ℕ
-  pub is-command : command ≡ i .command ++ (b ∷ [])
-  pub no-write : i .write ≡ none
-  pub reads : (commandOf (byte command 0) ≡ ReadData) ⊎ (commandOf (byte command 0) ≡ ReadDeleted)
-  pub whole : length command ≡ bytesFor (commandOf (byte command 0))
-  -- the disk in the drive that it names, and the sectors that are found on it
-  pub disk : Disk
-  pub in-drive : named (byte command 1) (i .drives) .slot ≡ Holds (good disk)
-  pub first : Sector
-  pub rest : List Sector
-  pub found : readAt disk (headOf (byte command 1)) (named (byte command 1) (i .drives) .cylinder) (idOf command) (byte command 6) ≡ first ∷ rest
-  pub theirs : bytes ≡ contents (first ∷ rest)
 
 module _ (s : Setting) (i : Inside) (b : ℕ) where
   -- data are served only by such a byte
@@ -169,12 +150,6 @@ unfolding setMotor
 motor-leaves on w = refl
 
 -- ---- on the lent bytes
-
--- the transfer buffer is the one that came, with the contents of what a read finds laid over it
-pub record Refilled (i : Inside) (b : ℕ) (x x′ : List ℕ) : Type 0 where
-  pub bytes : List ℕ
-  pub ends : EndsRead i b bytes
-  pub laid : x′ ≡ over x 0 bytes
 
 module _ (r : Regs) (b : ℕ) (h t d x : List ℕ) where
   -- the boxes that are seen

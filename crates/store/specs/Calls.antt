@@ -1,4 +1,5 @@
 -- What the public calls answer and leave, in terms of the disk that the store holds.
+use mathlib.Core.Path.{_≡_}
 use Prim.Native.Nat.{ℕ}
 use mathlib.Core.List.{List, []}
 use mathlib.Core.Bool.{not}
@@ -8,13 +9,13 @@ use Rattle.buffer.specs.Over.{over}
 use Rattle.fields.specs.Refusals.{Result, refused, good, need, after}
 use Rattle.fields.specs.Capacities.{mostTracks, mostSectors}
 use Rattle.fields.specs.Model.{Sector, Disk, sectorCount, byteCount}
-use Rattle.image.specs.Dsk.{dskOf}
+use Rattle.image.specs.Dsk.{dskOf, Dsk}
 use Rattle.fields.specs.declared.id.SectorId.{SectorId}
 use Rattle.fields.specs.declared.refusal.Refusal.{Refusal}
 use Rattle.fields.specs.declared.refusal.Refusal.the-variants.{BadStore, TooManyTracks, TooManySectors, NoRoom}
 use Rattle.store.specs.Find.{Found, nothing, found}
 use Rattle.store.specs.Search.{sectorAt, sectorByIndex, greatest, isSide0}
-use Rattle.store.specs.Store.{tableLength, roomOf, tableOf, dataOf}
+use Rattle.store.specs.Store.{tableLength, roomOf, tableOf, dataOf, diskOf}
 use Rattle.store.specs.Fresh.{fresh}
 use Rattle.store.specs.declared.answer.Has.{Has}
 use Rattle.store.specs.declared.answer.Has.the-variants as has
@@ -92,3 +93,9 @@ loadOf image t b = laid t b (need (eqb (length t) tableLength) BadStore (after (
 -- `new_formatted`: 2 for the table's length, then 8
 unfoldable pub freshOf : List ℕ → List ℕ → Outcome Done
 freshOf t b = laid t b (need (eqb (length t) tableLength) BadStore (fitting (roomOf b) fresh))
+
+-- the image that was loaded, and that the store holds its disk
+pub record Loaded (image t b : List ℕ) : Type 0 where
+  pub dsk : Dsk
+  pub read : dskOf image ≡ good dsk
+  pub holds : diskOf t b ≡ good (dsk .disk)
