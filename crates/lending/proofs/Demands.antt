@@ -93,7 +93,8 @@ module _ (es : List Event) (l : Lending) (f : Formed l) where
       let k : Host = run called es (hostAt l) .end in
       let s = stands es l (hostAt l) (here l f) in (
         ap (λ (y : Lending). formed (y .controller)) (s .are) ∙ image-formed (k .floppy) (sound-fitting k (s .sound)) (s .sound .held),
-        ap (λ (y : Lending). impossibleIn (y .transfer) (regsAt (y .controller))) (s .are) ∙ ap (λ (y : Host). impossibleIn (y .transfer) (y .floppy .regs)) (host-back k (s .sound)) ∙ s .sound .possible,
+        ap (λ (y : Lending). impossibleIn (y .transfer) (regsAt (y .controller))) (s .are)
+            ∙ ap (λ (y : Host). impossibleIn (y .transfer) (y .floppy .regs)) (host-back k (s .sound)) ∙ s .sound .possible,
       )
 
 module _ (t b x : List ℕ) (es : List Event) where

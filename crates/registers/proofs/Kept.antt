@@ -59,7 +59,10 @@ pub record Lawful (r : Regs) (room : ℕ) : Type 0 where
 pub lawful-so : (x : List ℕ) (r : Regs) → Lawful r (transferRoom x) → impossibleIn x r ≡ false
 unfolding impossible impossibleIn
 lawful-so x r w =
-    rw (le-ltb (r .fill) (r .place) (w .reply .read), le-ltb (r .until) (r .from) (w .unread .read), le-ltb 7 (r .fill) (w .reply .few), lt-leb (bytesFor (commandOf (getD (r .command) 0 0))) (r .count) (w .command .below), le-ltb 2 (r .lost) (w .unread .few), w .write, le-ltb (transferRoom x) (r .until) (w .unread .inside))
+    let a = lt-leb (bytesFor (commandOf (getD (r .command) 0 0))) (r .count) (w .command .below) in
+    let b = le-ltb (transferRoom x) (r .until) (w .unread .inside) in
+    let c = le-ltb (r .until) (r .from) (w .unread .read) in
+    rw (le-ltb (r .fill) (r .place) (w .reply .read), c, le-ltb 7 (r .fill) (w .reply .few), a, le-ltb 2 (r .lost) (w .unread .few), w .write, b)
 
 pub so-lawful : (x : List ℕ) (r : Regs) → length (r .command) ≡ 9 → length (r .reply) ≡ 7 → Small (r .index) (r .write .taken) → impossibleIn x r ≡ false
     → Lawful r (transferRoom x)
@@ -75,7 +78,9 @@ so-lawful x r nine seven small e =
 
 -- and no smaller room is lent
 pub lawful-wider : (r : Regs) (n m : ℕ) → n ≤ m → Lawful r n → Lawful r m
-lawful-wider r n m h w = record { command = w .command; reply = w .reply; unread = record { read = w .unread .read; inside = omega (arith, h, w .unread .inside); few = w .unread .few }; write = w .write; small = w .small }
+lawful-wider r n m h w =
+    let u : Unread (r .from) (r .until) (r .lost) m = record { read = w .unread .read; inside = omega (arith, h, w .unread .inside); few = w .unread .few } in
+    record { command = w .command; reply = w .reply; unread = u; write = w .write; small = w .small }
 
 module _ (r : Regs) (room : ℕ) (w : Lawful r room) where
   -- ---- a status read: it stays, counts or drops
@@ -111,7 +116,8 @@ module _ (r : Regs) (room : ℕ) (w : Lawful r room) where
   kept-source : (u v : Bool) → ltb (r .from) (r .until) ≡ u → ltb (r .place) (r .fill) ≡ v → Lawful (regsRead (sourceBy u v) r) room
   unfolding regsRead
   kept-source true v e f =
-      record { command = w .command; reply = w .reply; unread = record { read = omega (arith, ltb-true (r .from) (r .until) e); inside = w .unread .inside; few = omega arith }; write = w .write; small = w .small }
+      let g = ltb-true (r .from) (r .until) e in
+      record { command = w .command; reply = w .reply; unread = record { read = omega (arith, g); inside = w .unread .inside; few = omega arith }; write = w .write; small = w .small }
   kept-source false true e f = record {
     command = w .command;
     reply = record { seven = w .reply .seven; read = omega (arith, ltb-true (r .place) (r .fill) f); few = w .reply .few };
@@ -178,7 +184,9 @@ module _ (r : Regs) (room : ℕ) (w : Lawful r room) where
 
   pub kept-held : (b : ℕ) → r .write .on ≡ true → r .write .taken + 1 < sizeOf (r .write .id .n) → Lawful (regsTaken (Hold b) r) room
   kept-held b on h =
-      record { command = w .command; reply = w .reply; unread = w .unread; write = held-right (r .write .on) (r .write) h (fitted-few (r .write) (w .write) on); small = record { index-fits = w .small .index-fits; taken-fits = omega (arith, h, size-most (r .write .id .n)) } }
+      let right = held-right (r .write .on) (r .write) h (fitted-few (r .write) (w .write) on) in
+      let fits : Small (r .index) (r .write .taken + 1) = record { index-fits = w .small .index-fits; taken-fits = omega (arith, h, size-most (r .write .id .n)) } in
+      record { command = w .command; reply = w .reply; unread = w .unread; write = right; small = fits }
 
   pub kept-ended : (b : ℕ) → Lawful (regsChanged Finish (regsTaken (Hold b) r)) room
   kept-ended b = record { command = w .command; reply = w .reply; unread = w .unread; write = refl; small = record { index-fits = w .small .index-fits; taken-fits = omega arith } }
@@ -210,7 +218,8 @@ module _ (room : ℕ) where
   kept-change Turn r f w =
       record { command = w .command; reply = w .reply; unread = w .unread; write = w .write; small = record { index-fits = mod-lt (r .index + 1) (omega arith); taken-fits = w .small .taken-fits } }
   kept-change (Start c1 id) r f w =
-      record { command = w .command; reply = w .reply; unread = w .unread; write = rw (lt-leb (sizeOf (id .n)) 0 (size-pos (id .n)), f); small = record { index-fits = w .small .index-fits; taken-fits = omega arith } }
+      let fits : Small (r .index) 0 = record { index-fits = w .small .index-fits; taken-fits = omega arith } in
+      record { command = w .command; reply = w .reply; unread = w .unread; write = rw (lt-leb (sizeOf (id .n)) 0 (size-pos (id .n)), f); small = fits }
   kept-change Finish r f w = record { command = w .command; reply = w .reply; unread = w .unread; write = refl; small = record { index-fits = w .small .index-fits; taken-fits = omega arith } }
 
   pub kept-changes : (xs : List Change) (r : Regs) → AllFair xs → Lawful r room → Lawful (regsAll xs r) room

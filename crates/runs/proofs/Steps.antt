@@ -41,7 +41,8 @@ use Rattle.runs.proofs.Effects.{Tame, Clean, store-clean, Fits, Proper,
 
 -- ---- what a byte sent keeps
 
-module _ (r : Regs) (b : ℕ) (h t d x : List ℕ) (ok : impossibleIn x r ≡ false) (nine : length (r .command) ≡ 9) (seven : length (r .reply) ≡ 7) (small : Small (r .index) (r .write .taken)) (long : length h ≡ mostHeld) where
+module _ (r : Regs) (b : ℕ) (h t d x : List ℕ) (ok : impossibleIn x r ≡ false) (nine : length (r .command) ≡ 9) (seven : length (r .reply) ≡ 7)
+    (small : Small (r .index) (r .write .taken)) (long : length h ≡ mostHeld) where
   abbrev S : Setting
   S = settingOf d x
 
@@ -229,7 +230,8 @@ module _ (k : Host) (s : Sound k) where
   unfolding frontOf
   same-front y =
       let h : R .until ≤ length (k .transfer) = omega (arith, lawful .unread .inside, transfer-in (k .transfer)) in
-      ap (λ (l : List ℕ). record { seek = R .drive .seek; reply = slice (R .place) (R .fill) (R .reply); unread = drop (R .from) l; lost = R .lost }) (sym (take-append-le (R .until) (k .transfer) y h))
+      ap (λ (l : List ℕ). record { seek = R .drive .seek; reply = slice (R .place) (R .fill) (R .reply); unread = drop (R .from) l; lost = R .lost })
+      (sym (take-append-le (R .until) (k .transfer) y h))
 
   widen-agrees : (y : List ℕ) → Agrees (widen y)
   unfolding acted called
@@ -285,7 +287,8 @@ module _ (k : Host) (s : Sound k) where
     -- the rooms are those that were lent
     then-lent : (y : Sent) → KeepsAs (good y) → lent (Then y) ≡ lent k
     then-lent y q =
-        ap₂ {C = Setting} (λ (n m : ℕ). record { room = n; transfer = m }) (room-kept (k .bytes) (k .transfer) (y .effect .put) (q .1 .1 .1)) (transfer-kept (k .transfer) (y .effect .response) (q .1 .1 .0))
+        ap₂ {C = Setting} (λ (n m : ℕ). record { room = n; transfer = m })
+        (room-kept (k .bytes) (k .transfer) (y .effect .put) (q .1 .1 .1)) (transfer-kept (k .transfer) (y .effect .response) (q .1 .1 .0))
 
     then-sound : (y : Sent) → KeepsAs (good y) → Sound (Then y)
     then-sound y q =

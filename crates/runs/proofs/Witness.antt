@@ -42,7 +42,8 @@ room-is = ap (λ (n : ℕ). min n mostData) (length-replicate {A = ℕ} mostData
 fresh-laid : diskOf freshTable freshBytes ≡ good fresh
 unfolding freshTable freshBytes
 fresh-laid =
-    laid-back (replicate tableLength 0) (replicate mostData 0) fresh (length-replicate {A = ℕ} tableLength 0) (fresh-long .0) (fresh-long .1 .0) (subst (λ (n : ℕ). byteCount fresh ≤ n) (sym room-is) (fresh-long .1 .1))
+    laid-back (replicate tableLength 0) (replicate mostData 0) fresh (length-replicate {A = ℕ} tableLength 0) (fresh-long .0) (fresh-long .1 .0)
+    (subst (λ (n : ℕ). byteCount fresh ≤ n) (sym room-is) (fresh-long .1 .1))
 
 fresh-room : roomOf freshBytes ≡ mostData
 unfolding freshBytes

@@ -73,7 +73,8 @@ sent-go b es g l e ih (some m) n (refused why) q ok = never (cc)
 sent-go b es g l e ih (some m) n (good y) q ok =
     let r = ih (withWorld (done (g .world) y) g) m n ok in
     record {
-      inside = ap (λ (v : List ℕ). fed (g .setting) v (g .world .inside)) (first-is b (sentIn es) l e m n) ∙ step-is b g y q m ∙ r .inside ∙ ap (λ (z : Stage). good (z .world .inside)) (sym (end-is b g y q es));
+      inside = ap (λ (v : List ℕ). fed (g .setting) v (g .world .inside)) (first-is b (sentIn es) l e m n) ∙ step-is b g y q m ∙ r .inside
+          ∙ ap (λ (z : Stage). good (z .world .inside)) (sym (end-is b g y q es));
       rooms = ap (λ (z : Stage). z .setting) (end-is b g y q es) ∙ r .rooms;
     }
 

@@ -105,7 +105,8 @@ module _ (room : ℕ) (bytes reply : List ℕ) where
       → (run acted (send b ∷ []) g .end .world .front .unread ≡ bytes) × (run acted (send b ∷ []) g .end .world .front .reply ≡ reply)
   unfolding run acted writePort
   serves v g b e ok =
-      subst (λ (x : Result Sent). let y : Next Answer Stage = sentOn g (after x (λ v. good (done (g .world) v))) in granted (y .answer ∷ []) ≡ true → (y .then .world .front .unread ≡ bytes) × (y .then .world .front .reply ≡ reply))
+      subst (λ (x : Result Sent). let y : Next Answer Stage = sentOn g (after x (λ v. good (done (g .world) v))) in
+      granted (y .answer ∷ []) ≡ true → (y .then .world .front .unread ≡ bytes) × (y .then .world .front .reply ≡ reply))
       (sym e) (served v g b) ok
 
 -- the last byte of a Read Data that finds one sector

@@ -159,7 +159,8 @@ unfolding sentIn
 ends = record { sends = refl; grants = grants .last }
 
 -- the save changes sector 3 of cylinder 7 and nothing else
-pub example-touches : Ready (run acted E start .end .world) (savedBy example fresh) × Only (addressOf example) (example .content) (blank 2 0xE5 (record { c = 7; h = 0; r = 3; n = 2 })) fresh (savedBy example fresh)
+pub example-touches : Ready (run acted E start .end .world) (savedBy example fresh)
+    × Only (addressOf example) (example .content) (blank 2 0xE5 (record { c = 7; h = 0; r = 3; n = 2 })) fresh (savedBy example fresh)
 unfolding example-is
 example-touches = save-touches example fresh start E start-ready example-is (sending (bytesOf example) _ (grants .first))
 
