@@ -35,7 +35,7 @@ use Rattle.saves.proofs.Witness.{start, example, again, other, sendAll, sent-al
 use Rattle.runs.specs.Hosts.{Host, called, seen, stageOf}
 use Rattle.runs.proofs.Any.{calls-run}
 use Rattle.runs.proofs.Witness.{host, host-sound, host-stage, host-ready}
-use Rattle.lending.specs.Lendings.{Lending, exported, wordOf, lendingOf, seenIn, storeIn, Formed, passed, Posts, wordsRead}
+use Rattle.lending.specs.Lendings.{Lending, exported, wordOf, lendingOf, seenIn, storeIn, Formed, allPass, Posts, wordsRead}
 use Rattle.lending.proofs.Exports.{sound-fitting, host-back}
 use Rattle.lending.proofs.Demands.{Stands, stands, machine-words, save-bytes, second-bytes, order-bytes, back-bytes}
 
@@ -93,16 +93,16 @@ at-end es l g a = record {
 
 -- the words of an answer, none of them a refusal
 abbrev words : List Answer → Bool
-words l = passed (map wordOf l)
+words l = allPass (map wordOf l)
 
 posts : (es : List Event) (bytes : List ℕ) (l : Lending) (g : Stage) → At l g → sentIn es ≡ some bytes → words (run acted es g .answers) ≡ true → Posts es bytes (run exported es l .answers)
 posts es bytes l g a e ok = record {
   sends = e;
-  passing = ap passed (machine-words es l (a .host-there) (a .stands-there)) ∙ ap (λ (y : Stage). words (run acted es y .answers)) (sym (a .is)) ∙ ok;
+  passing = ap allPass (machine-words es l (a .host-there) (a .stands-there)) ∙ ap (λ (y : Stage). words (run acted es y .answers)) (sym (a .is)) ∙ ok;
 }
 
 tried : Tried words
-unfolding passed wordOf run acted sendAll bytesOf example again other changeDisk newWorld named taken changed allChanged putIn responded maskRows rows commandBy commandOf seekIf startAt writeData writeReply saveAt written obeyed commandIf commandByte dataIf dataByte byteFor sent done writePort fresh freshFrom formatted idsFrom blanks sizeOf sectorAt findFrom change saved total readBytes readAt runFrom contents servedAs readData
+unfolding allPass wordOf run acted sendAll bytesOf example again other changeDisk newWorld named taken changed allChanged putIn responded maskRows rows commandBy commandOf seekIf startAt writeData writeReply saveAt written obeyed commandIf commandByte dataIf dataByte byteFor sent done writePort fresh freshFrom formatted idsFrom blanks sizeOf sectorAt findFrom change saved total readBytes readAt runFrom contents servedAs readData
 tried = record { first = refl; second = refl; alone = refl; behind = refl; other = refl; before = refl; begun = refl; last = refl }
 
 at-e : At (run exported E lent .end) (run acted E start .end)

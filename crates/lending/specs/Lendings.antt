@@ -105,14 +105,14 @@ pub record Formed (l : Lending) : Type 0 where
 -- ---- Words of demand 3
 
 -- whether nothing was refused
-unfoldable pub passed : List ℕ → Bool
-passed [] = true
-passed (w ∷ ws) = cond (passes w) (passed ws) false
+unfoldable pub allPass : List ℕ → Bool
+allPass [] = true
+allPass (w ∷ ws) = cond (passes w) (allPass ws) false
 
 -- a sequence in which these bytes are sent, and its words, of which none is a refusal
 pub record Posts (es : List Event) (bytes : List ℕ) (words : List ℕ) : Type 0 where
   pub sends : sentIn es ≡ some bytes
-  pub passing : passed words ≡ true
+  pub passing : allPass words ≡ true
 
 -- the words that the reads of the data port answered
 unfoldable pub wordsRead : List Event → List ℕ → List ℕ
