@@ -6,6 +6,7 @@ use mathlib.Core.Bool.{Bool, true, false, cond}
 use mathlib.Core.List.{List, [], _∷_, _++_, map}
 use mathlib.Core.Option.{none}
 use lib.ListN.{length, take, replicate}
+use Rattle.fields.specs.declared.refusal.Refusal.the-variants.{BadController}
 use Rattle.fields.specs.Refusals.{good}
 use Rattle.fields.specs.Model.{Disk}
 use Rattle.fields.proofs.Tests.{never}
@@ -16,14 +17,14 @@ use Rattle.layout.specs.Layout.{regsAt, formed}
 use Rattle.words.specs.Words.{boolWord}
 use Rattle.host.proofs.Same.{image-formed}
 use Rattle.saves.specs.Events.{Question, motorOn?, whichTrack?, diskIn?, Event, poll, read, send, ask, switch, swap, widen}
-use Rattle.saves.specs.Events.{Answer, showed, gave, took, said, stood, denied, Run, run, granted}
+use Rattle.saves.specs.Events.{Answer, showed, gave, took, said, stood, denied, Run, run, granted, Each}
 use Rattle.saves.specs.Stages.{Stage, newStage, answerTo, acted}
 use Rattle.saves.specs.Words.{Ready, Save, bytesOf, addressOf, IsSave, savedBy, Sends, Only, ReadsBack, readBytes, replyTo, LosesNone, dataReads, givenIn}
-use Rattle.runs.specs.Hosts.{Host, called, seen, stageOf, newHost, Sound}
-use Rattle.runs.proofs.Any.{calls-run, calls-sound, new-sound, new-run, polls-calls}
+use Rattle.runs.specs.Hosts.{Host, called, seen, stageOf, newHost, Sound, HasDisk, SwapHolds}
+use Rattle.runs.proofs.Any.{calls-run, calls-sound, calls-tame, new-sound, new-run, polls-calls, calls-hold}
 use Rattle.runs.proofs.Gets.{save-calls, second-calls, order-calls, back-calls}
 use Rattle.lending.specs.Lendings.{Lending, passes, exported, wordOf, hostAt, lendingOf, seenIn, stageIn, storeIn, Formed, allPass, Posts, wordsRead, newLending}
-use Rattle.lending.proofs.Exports.{sound-fitting, refusal-fails, formed-sound, formed-back, host-run, host-back}
+use Rattle.lending.proofs.Exports.{sound-fitting, refusal-fails, host-run, host-back, host-formed}
 
 -- ---- words of which none is a refusal
 
@@ -41,8 +42,9 @@ pass-granted (said f ∷ l) e = pass-granted l (pass-on (passes (boolWord f)) (a
 pass-granted (stood c ∷ l) e = pass-granted l (pass-on (passes c) (allPass (map wordOf l)) e)
 pass-granted (denied why ∷ l) e = let z : cond false (allPass (map wordOf l)) false ≡ true = ap (λ (v : Bool). cond v (allPass (map wordOf l)) false) (sym (refusal-fails why)) ∙ e in never (cc)
 
--- ---- bytes that are those of a controller that is one
+-- ---- bytes that are those of a controller
 
+-- the bytes are those of this controller, which is one
 pub record Stands (l : Lending) (k : Host) : Type 0 where
   pub sound : Sound k
   pub are : l ≡ lendingOf k
@@ -67,8 +69,12 @@ module _ (es : List Event) (l : Lending) (k : Host) (s : Stands l k) where
 host-is : (l : Lending) (k : Host) → Stands l k → hostAt l ≡ k
 host-is l k s = ap hostAt (s .are) ∙ host-back k (s .sound)
 
-pub here : (l : Lending) → Formed l → Stands l (hostAt l)
-here l f = record { sound = formed-sound l f; are = sym (formed-back l f) }
+here : (l : Lending) → Formed l → Stands l (hostAt l)
+here l f = record { sound = f .sound; are = sym (f .same) }
+
+-- and bytes that are those of a controller that is one are formed
+stands-formed : (l : Lending) (k : Host) → Stands l k → Formed l
+stands-formed l k s = subst Formed (sym (s .are)) (host-formed k (s .sound))
 
 -- ---- demand 2: the exported calls are the machine's
 
@@ -87,15 +93,29 @@ module _ (es : List Event) (l : Lending) (f : Formed l) where
   pub bytes-end : stageIn (run exported es l .end) ≡ run acted es (stageIn l) .end
   bytes-end = machine-end es l (hostAt l) (here l f)
 
-  -- They leave bytes that a controller has, with possible numbers.
-  pub bytes-formed : (formed (run exported es l .end .controller) ≡ true) × (impossibleIn (run exported es l .end .transfer) (regsAt (run exported es l .end .controller)) ≡ false)
-  bytes-formed =
-      let k : Host = run called es (hostAt l) .end in
-      let s = stands es l (hostAt l) (here l f) in (
-        ap (λ (y : Lending). formed (y .controller)) (s .are) ∙ image-formed (k .floppy) (sound-fitting k (s .sound)) (s .sound .held),
-        ap (λ (y : Lending). impossibleIn (y .transfer) (regsAt (y .controller))) (s .are)
-            ∙ ap (λ (y : Host). impossibleIn (y .transfer) (y .floppy .regs)) (host-back k (s .sound)) ∙ s .sound .possible,
-      )
+  -- They leave bytes of a controller that is one.
+  pub bytes-formed : Formed (run exported es l .end)
+  bytes-formed = stands-formed (run exported es l .end) (run called es (hostAt l) .end) (stands es l (hostAt l) (here l f))
+
+  -- No answer is refusal 1: the words are those of answers among which there is none.
+  pub bytes-tame : (run exported es l .answers ≡ map wordOf (run called es (hostAt l) .answers))
+      × Each (λ (a : Answer). a ≡ denied BadController → ⊥) (run called es (hostAt l) .answers)
+  bytes-tame = (words-are es l (hostAt l) (here l f), calls-tame es (hostAt l) (f .sound))
+
+-- Table and data that hold a disk hold one after any calls, if every store that a disk change names does.
+pub bytes-hold : (es : List Event) (l : Lending) → Formed l → Each SwapHolds es → HasDisk (storeIn l) → HasDisk (storeIn (run exported es l .end))
+bytes-hold es l f q h =
+    subst HasDisk (sym (store-is es l (hostAt l) (here l f))) (calls-hold es (hostAt l) (f .sound) q h)
+
+-- They have the form that a controller has, and no call refuses them with 1.
+pub formed-read : (l : Lending) → Formed l → (formed (l .controller) ≡ true) × (impossibleIn (l .transfer) (regsAt (l .controller)) ≡ false)
+formed-read l f =
+    let k : Host = hostAt l in
+    (ap (λ (y : Lending). formed (y .controller)) (sym (f .same)) ∙ image-formed (k .floppy) (sound-fitting k (f .sound)) (f .sound .held), f .sound .possible)
+
+-- The bytes that `floppy_new` leaves are those of a controller that is one.
+pub new-formed : (t b x : List ℕ) → Formed (newLending t b x)
+new-formed t b x = host-formed (newHost t b x) (new-sound t b x)
 
 module _ (t b x : List ℕ) (es : List Event) where
   new-stands : Stands (newLending t b x) (newHost t b x)
@@ -118,7 +138,7 @@ polls-bytes n l f idle some =
     let s = stands (replicate n poll) l (hostAt l) (here l f) in
     let e : seenIn (run exported (replicate n poll) l .end) ≡ seen (run called (replicate n poll) (hostAt l) .end)
     = ap seen (host-is (run exported (replicate n poll) l .end) (run called (replicate n poll) (hostAt l) .end) s) in
-    let both = polls-calls n (hostAt l) (formed-sound l f) idle some in
+    let both = polls-calls n (hostAt l) (f .sound) idle some in
     (λ z. both .0 (ap (λ (w : World). length (w .front .unread)) (sym e) ∙ z), λ z. ap (λ (w : World). length (w .front .unread)) e ∙ both .1 z)
 
 -- ---- demand 3
@@ -189,7 +209,7 @@ reads-given (switch on ∷ es) g h = absurd h
 reads-given (swap present t b ∷ es) g h = absurd h
 reads-given (widen y ∷ es) g h = absurd h
 
--- A Read Data of the saved sector alone, sent next, hands out the save's bytes in order and then the reply, to however many data-port reads follow, of
+-- A Read Data of the saved sector alone, sent next, hands out the save's bytes in order and then the reply, to any number of data-port reads up to both, of
 -- which no status read loses a byte.
 pub back-bytes : (a : Save) (d : Disk) (code c1 eot gap dtl : ℕ) (l : Lending) (es fs gs : List Event)
     → Formed l → Ready (seenIn l) d → (save : IsSave a d) → Posts es (bytesOf a) (run exported es l .answers)

@@ -1,5 +1,5 @@
 -- An exported call on the bytes of a controller that is one is the call on that controller; so are sequences of them.
-use mathlib.Core.Path.{_≡_, refl, sym, ap, _∙_}
+use mathlib.Core.Path.{_≡_, refl, sym, ap, subst, _∙_}
 use Prim.Native.Nat.{ℕ, _≤_, _<_}
 use native.Mathlib.Omega.{arith}
 use mathlib.Core.Bool.{false}
@@ -37,7 +37,7 @@ use Rattle.layout.proofs.Inverse.{read-back, held-back, written-back}
 use Rattle.words.specs.Words.{byteWord, flagWord, doneWord, receiptWord, refusalWord}
 use Rattle.host.specs.Calls.{Answered, answered}
 use Rattle.host.proofs.Same.{shownWord, changedWord, wroteWord, motor-same, track-same, disk-same, status-same, read-same, set-motor-same, set-disk-same, write-same}
-use Rattle.lending.specs.Lendings.{Lending, passes, swappedOn, afterAnswered, afterSending, askedOn, exported, wordOf, hostAt, lendingOf, Formed}
+use Rattle.lending.specs.Lendings.{Lending, passes, swappedOn, afterAnswered, afterSending, askedOn, exported, wordOf, hostAt, lendingOf, Formed, Readable}
 
 -- ---- numbers that fit the fields of the layout
 
@@ -136,10 +136,11 @@ module _ (k : Host) (s : Sound k) where
 
 -- ---- the controller that is in bytes
 
-module _ (l : Lending) (f : Formed l) where
-  pub formed-sound : Sound (hostAt l)
+-- Bytes that a host can look at are those of a controller that is one.
+module _ (l : Lending) (f : Readable l) where
+  read-sound : Sound (hostAt l)
   unfolding regsAt numberAt
-  formed-sound = record {
+  read-sound = record {
     nine = refl;
     seven = refl;
     held = omega (arith, length-drop 42 (l .controller), formed-long (l .controller) (f .form));
@@ -148,8 +149,11 @@ module _ (l : Lending) (f : Formed l) where
     possible = f .possible;
   }
 
-  pub formed-back : lendingOf (hostAt l) ≡ l
-  formed-back = λ i. record { controller = written-back (l .controller) (f .are-bytes) (f .form) i; table = l .table; bytes = l .bytes; transfer = l .transfer }
+  pub readable-formed : Formed l
+  readable-formed = record {
+    sound = read-sound;
+    same = λ i. record { controller = written-back (l .controller) (f .are-bytes) (f .form) i; table = l .table; bytes = l .bytes; transfer = l .transfer };
+  }
 
 -- ---- sequences
 
@@ -158,10 +162,10 @@ pub host-run : (es : List Event) (k : Host) → Sound k
     → run exported es (lendingOf k) ≡ record { answers = map wordOf (run called es k .answers); end = lendingOf (run called es k .end) }
 host-run es k s = follows called exported wordOf lendingOf Sound (λ e j h. (exports j h e, agrees j h e .1)) es k s .0
 
--- The same from bytes that a host can look at.
+-- The same from the bytes.
 pub bytes-run : (es : List Event) (l : Lending) → Formed l
     → run exported es l ≡ record { answers = map wordOf (run called es (hostAt l) .answers); end = lendingOf (run called es (hostAt l) .end) }
-bytes-run es l f = ap (run exported es) (sym (formed-back l f)) ∙ host-run es (hostAt l) (formed-sound l f)
+bytes-run es l f = ap (run exported es) (sym (f .same)) ∙ host-run es (hostAt l) (f .sound)
 
 -- ---- and back
 
@@ -173,3 +177,7 @@ host-back k s = λ i. record {
   bytes = k .bytes;
   transfer = k .transfer;
 }
+
+-- so its bytes are formed
+pub host-formed : (k : Host) → Sound k → Formed (lendingOf k)
+host-formed k s = record { sound = subst Sound (sym (host-back k s)) s; same = ap lendingOf (host-back k s) }

@@ -35,8 +35,8 @@ use Rattle.saves.proofs.Witness.{start, example, again, other, sendAll, sent-al
 use Rattle.runs.specs.Hosts.{Host, called, seen, stageOf}
 use Rattle.runs.proofs.Any.{calls-run}
 use Rattle.runs.proofs.Witness.{host, host-sound, host-stage, host-ready}
-use Rattle.lending.specs.Lendings.{Lending, exported, wordOf, lendingOf, seenIn, storeIn, Formed, allPass, Posts, wordsRead}
-use Rattle.lending.proofs.Exports.{sound-fitting, host-back}
+use Rattle.lending.specs.Lendings.{Lending, exported, wordOf, lendingOf, seenIn, storeIn, Formed, Readable, allPass, Posts, wordsRead}
+use Rattle.lending.proofs.Exports.{sound-fitting, readable-formed, host-back}
 use Rattle.lending.proofs.Demands.{Stands, stands, machine-words, save-bytes, second-bytes, order-bytes, back-bytes}
 
 -- ---- the bytes of the new controller are bytes
@@ -63,12 +63,15 @@ host-small = refl
 abbrev pub lent : Lending
 lent = lendingOf host
 
-pub lent-formed : Formed lent
-lent-formed = record {
+pub lent-readable : Readable lent
+lent-readable = record {
   are-bytes = small-at (floppyBytes (host .floppy)) host-small;
   form = image-formed (host .floppy) (sound-fitting host host-sound) (host-sound .held);
   possible = ap (λ (y : Host). impossibleIn (y .transfer) (y .floppy .regs)) (host-back host host-sound) ∙ host-sound .possible;
 }
+
+lent-formed : Formed lent
+lent-formed = readable-formed lent lent-readable
 
 lent-ready : Ready (seenIn lent) fresh
 lent-ready = subst (λ (y : Host). Ready (seen y) fresh) (sym (host-back host host-sound)) host-ready

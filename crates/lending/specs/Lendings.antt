@@ -19,7 +19,7 @@ use Rattle.saves.specs.Events.{Question, motorOn?, whichTrack?, diskIn?, Event,
 use Rattle.saves.specs.Events.{Answer, showed, gave, took, said, stood, denied, Next}
 use Rattle.saves.specs.Words.{sentIn}
 use Rattle.saves.specs.Stages.{Stage}
-use Rattle.runs.specs.Hosts.{Host, seen, stageOf}
+use Rattle.runs.specs.Hosts.{Host, seen, stageOf, Sound}
 
 -- what a host lends: the bytes of the controller, of table, data and transfer buffer
 pub record Lending : Type 0 where
@@ -34,6 +34,7 @@ pub record Lending : Type 0 where
 abbrev pub withController : List ℕ → Lending → Lending
 withController c l = record { controller = c; table = l .table; bytes = l .bytes; transfer = l .transfer }
 
+-- what a call that changes the controller leaves, and what a byte sent leaves
 abbrev pub afterAnswered : Answered → Lending → Next ℕ Lending
 afterAnswered (answered w c) l = record { answer = w; then = withController c l }
 
@@ -51,12 +52,13 @@ swappedOn (answered w c) t b l = record {
   then = cond (passes w) (record { controller = c; table = t; bytes = b; transfer = l .transfer }) (withController c l);
 }
 
+-- the word that answers a question
 unfoldable pub askedOn : Question → List ℕ → ℕ
 askedOn motorOn? c = motorOn c
 askedOn whichTrack? c = trackOn c
 askedOn diskIn? c = diskOn c
 
--- one exported call
+-- one exported call; a longer transfer buffer is none, and its word is 0
 unfoldable pub exported : Event → Lending → Next ℕ Lending
 exported poll l = afterAnswered (statusOn (l .controller)) l
 exported read l = afterAnswered (readOn (l .controller) (l .transfer)) l
@@ -96,11 +98,20 @@ stageIn l = stageOf (hostAt l)
 abbrev pub storeIn : Lending → Result Disk
 storeIn l = diskOf (l .table) (l .bytes)
 
--- bytes of a controller that is one: bytes, of the form that a controller has, which no call refuses with 1
+-- bytes of a controller that is one: the one that is in them is, and they are its bytes
 pub record Formed (l : Lending) : Type 0 where
+  pub sound : Sound (hostAt l)
+  pub same : lendingOf (hostAt l) ≡ l
+
+-- what a host can see of its bytes: they are bytes, of the form that a controller has, and no call refuses them with 1
+pub record Readable (l : Lending) : Type 0 where
   pub are-bytes : (k : ℕ) → byteAt (l .controller) k < 256
   pub form : formed (l .controller) ≡ true
   pub possible : impossibleIn (l .transfer) (regsAt (l .controller)) ≡ false
+
+-- the bytes that `floppy_new` leaves, with buffers lent
+abbrev pub newLending : List ℕ → List ℕ → List ℕ → Lending
+newLending t b x = record { controller = floppyBytes newFloppy; table = t; bytes = b; transfer = x }
 
 -- ---- Words of demand 3
 
@@ -125,7 +136,3 @@ wordsRead (ask q ∷ es) (w ∷ ws) = wordsRead es ws
 wordsRead (switch on ∷ es) (w ∷ ws) = wordsRead es ws
 wordsRead (swap present t b ∷ es) (w ∷ ws) = wordsRead es ws
 wordsRead (widen y ∷ es) (w ∷ ws) = wordsRead es ws
-
--- the bytes that `floppy_new` leaves, with buffers lent
-abbrev pub newLending : List ℕ → List ℕ → List ℕ → Lending
-newLending t b x = record { controller = floppyBytes newFloppy; table = t; bytes = b; transfer = x }

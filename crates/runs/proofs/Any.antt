@@ -20,9 +20,9 @@ use Rattle.floppy.specs.Calls.{newFloppy}
 use Rattle.floppy.proofs.Seen.{new-seen}
 use Rattle.saves.specs.Events.{Event, poll, Answer, denied, Run, run, Each}
 use Rattle.saves.specs.Stages.{Stage, newStage, acted}
-use Rattle.runs.specs.Hosts.{Host, called, seen, stageOf, newHost, Sound}
+use Rattle.runs.specs.Hosts.{Host, called, seen, stageOf, storeOf, HasDisk, SwapHolds, newHost, Sound}
 use Rattle.runs.proofs.Follows.{follows}
-use Rattle.runs.proofs.Steps.{agrees, tame}
+use Rattle.runs.proofs.Steps.{agrees, tame, call-holds}
 
 -- ---- from a controller that is one
 
@@ -42,6 +42,12 @@ pub calls-tame : (es : List Event) (k : Host) → Sound k → Each (λ (a : Answ
 unfolding run Each
 calls-tame [] k s = tt
 calls-tame (e ∷ es) k s = (tame k s e, calls-tame es (called e k .then) (agrees k s e .1))
+
+-- A store that holds a disk holds one after any calls, if every store that a disk change names does: refusal 2 never comes.
+pub calls-hold : (es : List Event) (k : Host) → Sound k → Each SwapHolds es → HasDisk (storeOf k) → HasDisk (storeOf (run called es k .end))
+unfolding run Each
+calls-hold [] k s q h = h
+calls-hold (e ∷ es) k s q h = calls-hold es (called e k .then) (agrees k s e .1) (q .1) (call-holds k s h e (q .0))
 
 -- ---- from a new controller
 

@@ -16,12 +16,9 @@ use Rattle.runs.proofs.Any.{calls-run, calls-sound}
 use Rattle.saves.specs.Words.{inDrive, Ready, Save, bytesOf, addressOf, IsSave, savedBy, Sends, Only, ReadsBack, readBytes, replyTo, LosesNone, dataReads, givenIn}
 use Rattle.saves.proofs.Demand.{save-touches, still-other, second-alone, either-order}
 use Rattle.saves.proofs.ReadBack.{read-back}
+use Rattle.runs.proofs.Steps.{held-is}
 
 -- ---- from calls to the machine
-
-held-is : (f : Bool) (disk : Result Disk) (d : Disk) → slotIf f disk ≡ Holds (good d) → disk ≡ good d
-held-is true disk d e = cc
-held-is false disk d e = never (cc)
 
 store-is : (k : Host) (d : Disk) → inDrive (seen k) ≡ Holds (good d) → storeOf k ≡ good d
 unfolding insideOf
@@ -99,7 +96,7 @@ order-calls a b d k es fs fs′ es′ sound ready sa sb differ ma mb mb′ ma′
     let same = either-order a b d g es fs fs′ es′ ready sa sb differ na nb (made fs′ k sound g refl (bytesOf b) mb′) (made es′ j′ two′ h′ e′ (bytesOf a) ma′) in
     slot-is fs j two h e (savedBy b (savedBy a d)) slot ∙ sym (slot-is es′ j′ two′ h′ e′ (savedBy b (savedBy a d)) (sym same ∙ slot))
 
--- A Read Data of the saved sector alone, sent next, hands out the save's bytes in order and then the reply, to however many data-port reads follow, of
+-- A Read Data of the saved sector alone, sent next, hands out the save's bytes in order and then the reply, to any number of data-port reads up to both, of
 -- which no status read loses a byte.
 pub back-calls : (a : Save) (d : Disk) (code c1 eot gap dtl : ℕ) (k : Host) (es fs gs : List Event)
     → Sound k → Ready (seen k) d → (save : IsSave a d) → Sends es (bytesOf a) (run called es k .answers)

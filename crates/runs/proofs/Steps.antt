@@ -9,19 +9,20 @@ use lib.Seq.{slice, take-append-le}
 use borrow.Author.Tests.{eqb-false}
 use Rattle.fields.specs.Capacities.{mostHeld, mostTransfer}
 use Rattle.fields.specs.Refusals.{Result, refused, good, after}
-use Rattle.fields.specs.Model.{sizeOf}
+use Rattle.fields.specs.Model.{sizeOf, Disk}
 use Rattle.fields.specs.declared.refusal.Refusal.the-variants.{BadController}
 use Rattle.fields.proofs.Sizes.{size-most}
 use Rattle.fields.proofs.Tests.{never}
-use Rattle.store.specs.Store.{roomOf, transferRoom}
+use Rattle.store.specs.Store.{roomOf, transferRoom, diskOf}
 use Rattle.store.specs.declared.answer.Done.{Done}
+use Rattle.store.specs.declared.answer.Done.the-variants as finished
 use Rattle.store.proofs.Checks.{transfer-in}
 use Rattle.codes.specs.declared.command.Command.{Command}
 use Rattle.codes.specs.Table.{commandOf, bytesFor}
 use Rattle.registers.specs.declared.regs.Regs.{Regs}
 use Rattle.registers.specs.declared.regs.Byte.the-variants as byte
-use Rattle.registers.specs.Boxes.{Setting, Inside, World, Add, Hold, Change, Clear, Finish, Effect, Sent, named}
-use Rattle.registers.specs.View.{settingOf, slotOf, drivesOf, writingOf, insideOf, frontOf, impossibleIn}
+use Rattle.registers.specs.Boxes.{Setting, Inside, World, Add, Hold, Change, Clear, Finish, Effect, Sent, named, Holds, allChanged, taken, putIn}
+use Rattle.registers.specs.View.{slotIf, settingOf, slotOf, drivesOf, writingOf, insideOf, frontOf, impossibleIn}
 use Rattle.registers.specs.Settle.{regsTaken, heldTaken, regsChanged, regsAll, regsResponded, regsOf}
 use Rattle.registers.specs.Calls.{statusRead, dataRead, motorSet, diskSet}
 use Rattle.registers.proofs.Numbers.{possible, possible-in, taken-few, count-few}
@@ -36,8 +37,14 @@ use Rattle.sending.proofs.Seen.{write-seen, disk-told}
 use Rattle.floppy.specs.Calls.{wroteAs}
 use Rattle.saves.specs.Events.{Question, motorOn?, whichTrack?, diskIn?, Event, poll, read, send, ask, switch, swap, widen, Answer, showed, gave, took, stood, denied, Next}
 use Rattle.saves.specs.Stages.{Stage, sentOn, answerTo, acted}
-use Rattle.runs.specs.Hosts.{Host, withFloppy, withStore, withMore, byteSaid, flagSaid, doneSaid, ifSwapped, afterWrote, askedIn, called, seen, lent, stageOf, Sound}
+use Rattle.runs.specs.Hosts.{HasDisk, SwapHolds, storeOf, Host, withFloppy, withStore, withMore, byteSaid, flagSaid, doneSaid, ifSwapped, afterWrote, askedIn, called, seen, lent, stageOf, Sound}
 use Rattle.runs.proofs.Effects.{Tame, Clean, store-clean, Fits, Proper, obeyed-proper, Ends, written-ends, transfer-kept, room-kept}
+use mathlib.Core.Option.{Option, none, some}
+
+-- what is in a drive is the disk that the store holds
+pub held-is : (f : Bool) (disk : Result Disk) (d : Disk) → slotIf f disk ≡ Holds (good d) → disk ≡ good d
+held-is true disk d e = cc
+held-is false disk d e = never (cc)
 
 -- ---- what a byte sent keeps
 
@@ -338,6 +345,39 @@ module _ (k : Host) (s : Sound k) where
   acted-tame (switch on) q = never (cc)
   acted-tame (swap present t b) q = never (cc)
   acted-tame (widen y) q = never (cc)
+
+  -- ---- a store that holds a disk holds one then
+
+  module _ (h : HasDisk (storeOf k)) where
+    put-holds : (b : ℕ) (y : Sent) → sent (lent k) I b ≡ good y → (p : Option Disk) → y .effect .put ≡ p → HasDisk (storeOf (Then y))
+    unfolding insideOf done putIn
+    put-holds b y e none q = record { disk = h .disk; holds = ap (λ (z : Option Disk). diskOf (tableWith z (k .table)) (dataWith z (k .bytes))) q ∙ h .holds }
+    put-holds b y e (some d) q =
+        let i : Inside = allChanged (y .effect .changes) (taken (y .taking) (seen k .inside)) in
+        let slot : slotIf (Then y .floppy .regs .drive .disk) (storeOf (Then y)) ≡ Holds (good d)
+        = ap (λ (w : World). w .inside .drives .first .slot) (then-seen b y e) ∙ ap (λ (z : Option Disk). putIn z i .drives .first .slot) q in
+        record { disk = d; holds = held-is (Then y .floppy .regs .drive .disk) (storeOf (Then y)) d slot }
+
+    sent-holds : (b : ℕ) (y : Result Sent) → sent (lent k) I b ≡ y → HasDisk (storeOf (afterWrote (wroteAs (LeftAs y)) .then))
+    unfolding leftOf regsOf
+    sent-holds b (refused why) e = h
+    sent-holds b (good y) e = put-holds b y e (y .effect .put) refl
+
+    swap-holds : (a : Done) (t b : List ℕ) (j : Host) → HasDisk (diskOf t b) → HasDisk (storeOf j) → HasDisk (storeOf (ifSwapped a t b j))
+    swap-holds finished.Good t b j new old = new
+    swap-holds (finished.Refused why) t b j new old = old
+
+    pub call-holds : (e : Event) → SwapHolds e → HasDisk (storeOf (called e k .then))
+    unfolding called SwapHolds
+    call-holds poll q = h
+    call-holds read q = h
+    call-holds (send b) q =
+        let y : Result Sent = sent (lent k) I b in
+        subst (λ (l : Left). HasDisk (storeOf (afterWrote (wroteAs l) .then))) (sym (write-as b y refl)) (sent-holds b y refl)
+    call-holds (ask q) z = h
+    call-holds (switch on) q = h
+    call-holds (swap present t b) q = swap-holds (diskSet present R .done) t b (With (diskSet present R .regs)) q h
+    call-holds (widen y) q = h
 
   -- A call on a controller that is one is the machine's, and leaves a controller that is one.
   pub agrees : (e : Event) → Agrees e

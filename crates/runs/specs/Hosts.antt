@@ -6,7 +6,7 @@ use mathlib.Core.Bool.{false}
 use mathlib.Core.List.{List, _++_}
 use lib.ListN.{length}
 use Rattle.fields.specs.Capacities.{mostHeld}
-use Rattle.fields.specs.Refusals.{Result}
+use Rattle.fields.specs.Refusals.{Result, good}
 use Rattle.fields.specs.Model.{Disk}
 use Rattle.store.specs.Store.{diskOf}
 use Rattle.store.specs.declared.answer.Done.{Done}
@@ -46,8 +46,9 @@ withStore t b k = record { floppy = k .floppy; table = t; bytes = b; transfer = 
 abbrev pub withMore : List ℕ → Host → Host
 withMore y k = record { floppy = k .floppy; table = k .table; bytes = k .bytes; transfer = k .transfer ++ y }
 
--- ---- Answers
+-- ---- Answers: what a call by value answers, as one of those of `Events`
 
+-- a byte, yes or no, that it was done, that a byte was taken; or the refusal
 abbrev pub byteSaid : (ℕ → Answer) → Byte → Answer
 byteSaid f (byte.Of n) = f n
 byteSaid f (byte.Refused why) = denied why
@@ -116,6 +117,20 @@ stageOf k = record { setting = lent k; world = seen k }
 -- the disk that a host's store holds
 abbrev pub storeOf : Host → Result Disk
 storeOf k = diskOf (k .table) (k .bytes)
+
+-- a store that holds a disk; and a call that lends no other, unless that one does
+pub record HasDisk (store : Result Disk) : Type 0 where
+  pub disk : Disk
+  pub holds : store ≡ good disk
+
+unfoldable pub SwapHolds : Event → Type 0
+SwapHolds poll = Unit {0}
+SwapHolds read = Unit {0}
+SwapHolds (send b) = Unit {0}
+SwapHolds (ask q) = Unit {0}
+SwapHolds (switch on) = Unit {0}
+SwapHolds (swap present t b) = HasDisk (diskOf t b)
+SwapHolds (widen y) = Unit {0}
 
 -- a new controller, with buffers lent
 abbrev pub newHost : List ℕ → List ℕ → List ℕ → Host

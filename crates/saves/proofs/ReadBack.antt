@@ -156,7 +156,7 @@ module _ (a : Save) (d : Disk) (c1 eot : ℕ) (save : IsSave a d) where
       ap length kept-bytes ∙ omega (arith, save .as-many, e)
 
 -- A Read Data of the saved sector alone, sent next with port reads and questions wherever they fall, hands out the save's bytes in order and then the
--- reply, to however many data-port reads follow, of which no status read loses a byte.
+-- reply, to any number of data-port reads up to both, of which no status read loses a byte.
 pub read-back : (a : Save) (d : Disk) (code c1 eot gap dtl : ℕ) (g : Stage) (es fs gs : List Event)
     → Ready (g .world) d → (save : IsSave a d) → Sends es (bytesOf a) (run acted es g .answers)
     → let p : Stage = run acted es g .end in
