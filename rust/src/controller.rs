@@ -7,7 +7,7 @@ use crate::{Disk, Refusal, calls};
 
 /// Why a call on a controller is not refused with 1: its bytes were made by the library or judged by it, nobody
 /// else alters them, and the transfer room grows only, or is judged again. Over any calls they then stay those of a
-/// controller: `bytes-formed` and `calls-tame` (docs/PROMISES.md, "Over any calls").
+/// controller: `bytes-formed` and `bytes-tame` (docs/PROMISES.md, "Over any calls").
 const GOOD: &str = "a controller's bytes are good: the library has made or judged them";
 
 /// A floppy controller with one drive.

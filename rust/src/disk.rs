@@ -4,8 +4,8 @@ use std::fmt;
 
 use crate::{Refusal, calls};
 
-/// Why a question to a disk is not refused: what a load, a fresh format, a format or a save leaves is accepted,
-/// `load-left`, `fresh-left`, `set-left`, `save-left` (docs/PROMISES.md), and what came from a host was judged.
+/// Why a question to a disk is not refused: what a load or a fresh format lays is accepted, and what came from a host
+/// was judged; after any calls it still is: `load-left`, `fresh-left`, `bytes-hold` (docs/PROMISES.md).
 const HOLDS: &str = "a disk's table and data hold a disk: the library has laid or judged them";
 
 /// The ID of a sector, as it stands on the track. Two sectors of a track may have the same ID; the first counts.

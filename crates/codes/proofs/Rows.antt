@@ -3,31 +3,16 @@ use mathlib.Core.Path.{_≡_, refl}
 use Prim.Native.Nat.{ℕ, zero, suc, _+_, _*_, _-_, _/_, _%_, _<_, _≤_}
 use native.Mathlib.Omega.{arith}
 use native.Mathlib.Decide.{ℕ-discrete}
-use mathlib.Core.Bool.{Bool, true, false, cond, _&&_}
+use mathlib.Core.Bool.{Bool, true, false, cond}
 use mathlib.Core.List.{List, [], _∷_}
 use lib.Dec.{leb}
 use borrow.Author.Tests.{leb-true, ne-eqb}
 use Rattle.fields.proofs.Tests.{never, and-fst, and-snd}
-use Rattle.codes.specs.Table.{TableRow, maskRows, rows, commandBy, commandOf, bytesFor}
+use Rattle.codes.specs.Table.{TableRow, maskRows, rows, commandBy, commandOf, bytesFor, passing, oneEach, others}
 use Rattle.codes.specs.declared.command.Command.{Command}
 use Rattle.codes.specs.declared.command.Command.the-variants.{Specify, SenseDrive, Recalibrate, SenseInterrupt, SeekTo, Version, ReadData, ReadDeleted, WriteData, ReadId, FormatTrack, Unserved, Invalid}
 
 -- ---- the two facts
-
--- how many rows take a byte
-unfoldable pub passing : List TableRow → ℕ → ℕ
-passing [] c = 0
-passing (x ∷ xs) c = cond (x .passes c) 1 0 + passing xs c
-
--- whether at most one row takes each byte below n
-unfoldable pub oneEach : ℕ → Bool
-oneEach zero = true
-oneEach (suc n) = leb (passing rows n) 1 && oneEach n
-
--- how many bytes below n no row takes
-unfoldable pub others : ℕ → ℕ
-others zero = 0
-others (suc n) = (1 - passing rows n) + others n
 
 one-each : oneEach 256 ≡ true
 unfolding oneEach passing rows maskRows

@@ -1,8 +1,8 @@
 -- The table of commands, by the first byte (01, "Commands").
-use Prim.Native.Nat.{ℕ, _+_, _*_, _/_, _%_}
-use mathlib.Core.Bool.{Bool, cond}
+use Prim.Native.Nat.{ℕ, _+_, _*_, _/_, _%_, zero, suc, _-_}
+use mathlib.Core.Bool.{Bool, cond, true, _&&_}
 use mathlib.Core.List.{List, [], _∷_}
-use lib.Dec.{eqb}
+use lib.Dec.{eqb, leb}
 use Rattle.codes.specs.declared.command.Command.{Command}
 use Rattle.codes.specs.declared.command.Command.the-variants.{Specify, SenseDrive, Recalibrate, SenseInterrupt, SeekTo, Version, ReadData}
 use Rattle.codes.specs.declared.command.Command.the-variants.{ReadDeleted, WriteData, ReadId, FormatTrack, Unserved, Invalid}
@@ -79,3 +79,20 @@ bytesFor ReadId = 2
 bytesFor FormatTrack = 6
 bytesFor Unserved = 9
 bytesFor Invalid = 1
+
+-- ---- What the table takes
+
+-- how many rows take a byte
+unfoldable pub passing : List TableRow → ℕ → ℕ
+passing [] c = 0
+passing (x ∷ xs) c = cond (x .passes c) 1 0 + passing xs c
+
+-- whether at most one row takes each byte below n
+unfoldable pub oneEach : ℕ → Bool
+oneEach zero = true
+oneEach (suc n) = leb (passing rows n) 1 && oneEach n
+
+-- how many bytes below n no row takes
+unfoldable pub others : ℕ → ℕ
+others zero = 0
+others (suc n) = (1 - passing rows n) + others n

@@ -88,5 +88,5 @@ leftOf (good s) r h t b x =
 
 -- what a byte leaves, seen: a refusal, with every byte as it came; or the boxes then
 abbrev pub Sees : Regs → List ℕ → List ℕ → List ℕ → List ℕ → Left → Result World → Type 0
-Sees r h t b x y (refused why) = y ≡ left (declined why r) h t b x
+Sees r h t b x y (refused why) = y ≡ left (record { receipt = receipt.Refused why; regs = r }) h t b x
 Sees r h t b x (left a h′ t′ b′ x′) (good w) = (a .receipt ≡ receipt.Good) × (worldOf (a .regs) h′ t′ b′ x′ ≡ w)

@@ -19,24 +19,11 @@ use Rattle.registers.specs.Calls.{statusOf, afterStatusOf, toldIf, statusRead, 
 use Rattle.commands.specs.Lent.{leftOf}
 use Rattle.sending.specs.Calls.{sentTo, dataWrite}
 use Rattle.floppy.specs.declared.Floppy.{Floppy}
-use Rattle.floppy.specs.declared.Shown.{Shown}
-use Rattle.floppy.specs.declared.Changed.{Changed}
-use Rattle.floppy.specs.Calls.{shownAs, changedAs, Wrote, wrote, wroteAs, statusCall, readCall, writeCall}
+use Rattle.floppy.specs.Calls.{shownAs, changedAs, wroteAs, statusCall, readCall, writeCall}
 use Rattle.layout.specs.Layout.{controllerLength, flagByte, seekByte, numbersFor, floppyBytes, formed, regsIn, Fitting}
-use Rattle.words.specs.Words.{byteWord, flagWord, doneWord, receiptWord}
-use Rattle.host.specs.Calls.{motorOn, trackOn, diskOn, Answered, answered, toldOn, switchedOn, setMotorOn, setDiskOn, statusOn, readOn, Sending, sending, postedOn, writeOn}
-use Rattle.layout.proofs.Inverse.{read-back}
-
--- ---- an answer by value, as words and bytes
-
-abbrev pub shownWord : Shown → Answered
-shownWord a = answered (byteWord (a .byte)) (floppyBytes (a .floppy))
-
-abbrev pub changedWord : Changed → Answered
-changedWord a = answered (doneWord (a .done)) (floppyBytes (a .floppy))
-
-abbrev pub wroteWord : Wrote → Sending
-wroteWord (wrote a t d x) = sending (receiptWord (a .receipt)) (floppyBytes (a .floppy)) t d x
+use Rattle.words.specs.Words.{byteWord, flagWord}
+use Rattle.host.specs.Calls.{motorOn, trackOn, diskOn, toldOn, switchedOn, setMotorOn, setDiskOn, statusOn, readOn, postedOn, writeOn, shownWord, changedWord, wroteWord}
+use Rattle.layout.proofs.Inverse.{regs-back}
 
 -- ---- the bytes of a controller are formed
 
@@ -58,7 +45,7 @@ module _ (f : Floppy) (fits : Fitting (f .regs)) (long : length (f .held) ≡ mo
 
   image-in : regsIn (floppyBytes f) ≡ good (f .regs)
   unfolding regsIn
-  image-in = rw image-formed (ap good (read-back (f .regs) (f .held) fits))
+  image-in = rw image-formed (ap good (regs-back (f .regs) (f .held) fits))
 
   -- ---- calls that ask
 

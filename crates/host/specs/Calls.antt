@@ -30,9 +30,11 @@ use Rattle.registers.specs.declared.regs.Byte.the-variants as byte
 use Rattle.registers.specs.Calls.{statusRead, dataRead, motorSet, diskSet, motorOf, currentTrack, diskIn}
 use Rattle.commands.specs.Lent.{Left, left}
 use Rattle.sending.specs.Calls.{dataWrite}
-use Rattle.floppy.specs.Calls.{newFloppy}
+use Rattle.floppy.specs.Calls.{newFloppy, Wrote, wrote}
 use Rattle.layout.specs.Layout.{controllerLength, numbersFor, floppyBytes, heldAt, regsIn}
 use Rattle.words.specs.Words.{refusalWord, byteWord, flagWord, doneWord, receiptWord}
+use Rattle.floppy.specs.declared.Shown.{Shown}
+use Rattle.floppy.specs.declared.Changed.{Changed}
 
 -- ---- Calls that ask a controller
 
@@ -147,3 +149,15 @@ pub data NoPart (t b : List ℕ) (side cylinder : ℕ) (id : SectorId) : Type 0 
   no-disk : (why : Refusal) → diskOf t b ≡ refused why → NoPart t b side cylinder id
   no-sector : (d : Disk) → diskOf t b ≡ good d → sectorAt d side cylinder id ≡ nothing → NoPart t b side cylinder id
   no-bytes : (index row end : ℕ) → placeOf t b side cylinder id ≡ place.Part index row 0 0 end → NoPart t b side cylinder id
+
+-- ---- An answer by value, as words and bytes
+
+-- of a port read, of a change of motor or disk, of a byte sent
+abbrev pub shownWord : Shown → Answered
+shownWord a = answered (byteWord (a .byte)) (floppyBytes (a .floppy))
+
+abbrev pub changedWord : Changed → Answered
+changedWord a = answered (doneWord (a .done)) (floppyBytes (a .floppy))
+
+abbrev pub wroteWord : Wrote → Sending
+wroteWord (wrote a t d x) = sending (receiptWord (a .receipt)) (floppyBytes (a .floppy)) t d x

@@ -11,7 +11,7 @@ use Rattle.fields.specs.Refusals.{Result, refused, good, after}
 use Rattle.fields.specs.Model.{Track, Disk, total, trackBytes, sectorCount, byteCount}
 use Rattle.tracks.specs.Block.{trackOf, trackHead, blockOf}
 use Rattle.image.specs.Dsk.{Dsk, entries, entryOf, headerOf, before, placed, tracksFrom, imageOf, dskOf}
-use Rattle.image.specs.Calls.{openedOf, past, readStep, entryStep, stepOf, tracksLeft, tracksIn, toCome, startOf, surveyFrom, surveyed, surveyOf}
+use Rattle.image.specs.Calls.{openedOf, past, readStep, entryStep, stepOf, tracksLeft, tracksIn, toCome, startOf, surveyFrom, surveyed, surveyOf, Moved, Says}
 use Rattle.fields.specs.declared.refusal.Refusal.{Refusal}
 use Rattle.tracks.specs.declared.track.Kind.{Kind}
 use Rattle.image.specs.declared.walk.Entry.{Entry}
@@ -85,31 +85,9 @@ tracks-step kind b i at =
     ≡ placed (entryOf kind b i) (tracksFrom kind b (i + 1) at l)
     (λ size. after (trackOf kind (drop at b)) (λ t. before t (tracksFrom kind b (i + 1) (at + size) l)))) (λ k. refl)
 
--- a walk that has passed one entry
-pub record Moved (w r : Walk) : Type 0 where
-  pub more : w .entry < w .entries
-  pub next : r .entry ≡ w .entry + 1
-  pub same : r .entries ≡ w .entries
-  pub kind : r .kind ≡ w .kind
-
 -- so a walk comes to its end
 pub falls : (w r : Walk) → Moved w r → r .entries - r .entry < w .entries - w .entry
 falls w r m = omega (arith, m .more, m .next, m .same)
-
--- a track that was handed out, before those that follow it
-pub record Handed (b : List ℕ) (w : Walk) (h : Head) (r : Walk) : Type 0 where
-  pub moved : Moved w r
-  pub track : Track
-  pub read : trackOf (w .kind) (drop (w .at) b) ≡ good track
-  pub head : h ≡ trackHead track
-  pub left : tracksLeft b w ≡ before track (tracksLeft b r)
-
--- what a step's answer says of the tracks that the walk had left
-abbrev pub Says : List ℕ → Walk → Step → Type 0
-Says b w step.End = tracksLeft b w ≡ good []
-Says b w (step.Refused why) = tracksLeft b w ≡ refused why
-Says b w (step.Absent r) = Moved w r × (tracksLeft b w ≡ tracksLeft b r)
-Says b w (step.Track h r) = Handed b w h r
 
 module _ (b : List ℕ) (w : Walk) where
   left-end : w .entries ≤ w .entry → tracksLeft b w ≡ good []

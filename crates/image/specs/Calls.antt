@@ -1,5 +1,6 @@
 -- What the walk's calls answer, in terms of the format.
-use Prim.Native.Nat.{ℕ, _+_, _-_}
+use mathlib.Core.Path.{_≡_}
+use Prim.Native.Nat.{ℕ, _+_, _-_, _<_}
 use mathlib.Core.List.{List, []}
 use mathlib.Core.Bool.{cond}
 use lib.ListN.{length, drop}
@@ -7,7 +8,7 @@ use lib.Dec.{ltb}
 use Rattle.fields.specs.Refusals.{Result, refused, good}
 use Rattle.fields.specs.Model.{Track, Disk, sectorCount, byteCount}
 use Rattle.tracks.specs.Block.{trackOf, trackHead}
-use Rattle.image.specs.Dsk.{Dsk, entries, entryOf, tracksFrom, dskOf}
+use Rattle.image.specs.Dsk.{Dsk, entries, entryOf, tracksFrom, dskOf, before}
 use Rattle.tracks.specs.declared.track.Kind.{Kind}
 use Rattle.image.specs.declared.walk.Entry.{Entry}
 use Rattle.image.specs.declared.walk.Entry.the-variants.{Absent, Size}
@@ -20,6 +21,7 @@ use Rattle.image.specs.declared.walk.Opened.{Opened}
 use Rattle.image.specs.declared.walk.Opened.the-variants as opened
 use Rattle.image.specs.declared.walk.Step.{Step}
 use Rattle.image.specs.declared.walk.Step.the-variants as step
+use Rattle.tracks.specs.declared.track.Head.{Head}
 
 -- the kind that an image's signature names
 abbrev pub signatureOf : Result Kind → Signature
@@ -75,3 +77,25 @@ tracksIn (good d) = d
 
 abbrev pub toCome : List ℕ → Walk → Disk
 toCome b w = tracksIn (tracksLeft b w)
+
+-- a walk that has passed one entry
+pub record Moved (w r : Walk) : Type 0 where
+  pub more : w .entry < w .entries
+  pub next : r .entry ≡ w .entry + 1
+  pub same : r .entries ≡ w .entries
+  pub kind : r .kind ≡ w .kind
+
+-- a track that was handed out, before those that follow it
+pub record Handed (b : List ℕ) (w : Walk) (h : Head) (r : Walk) : Type 0 where
+  pub moved : Moved w r
+  pub track : Track
+  pub read : trackOf (w .kind) (drop (w .at) b) ≡ good track
+  pub head : h ≡ trackHead track
+  pub left : tracksLeft b w ≡ before track (tracksLeft b r)
+
+-- what a step's answer says of the tracks that the walk had left
+abbrev pub Says : List ℕ → Walk → Step → Type 0
+Says b w step.End = tracksLeft b w ≡ good []
+Says b w (step.Refused why) = tracksLeft b w ≡ refused why
+Says b w (step.Absent r) = Moved w r × (tracksLeft b w ≡ tracksLeft b r)
+Says b w (step.Track h r) = Handed b w h r

@@ -42,9 +42,9 @@ bytes-are (suc n) k x h =
 
 -- ---- the registers, written and read
 
-pub read-back : (r : Regs) (rest : List ℕ) → Fitting r → regsAt (numbersFor r rest) ≡ r
+pub regs-back : (r : Regs) (rest : List ℕ) → Fitting r → regsAt (numbersFor r rest) ≡ r
 unfolding regsAt numbersFor numberAt
-read-back r rest f = λ i. record {
+regs-back r rest f = λ i. record {
   command = bytes-are 9 0 (r .command) (f .nine) i;
   count = r .count;
   reply = bytes-are 7 0 (r .reply) (f .seven) i;

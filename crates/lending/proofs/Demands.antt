@@ -23,7 +23,7 @@ use Rattle.saves.specs.Words.{Ready, Save, bytesOf, addressOf, IsSave, savedBy,
 use Rattle.runs.specs.Hosts.{Host, called, seen, stageOf, newHost, Sound, HasDisk, SwapHolds}
 use Rattle.runs.proofs.Any.{calls-run, calls-sound, calls-tame, new-sound, new-run, polls-calls, calls-hold}
 use Rattle.runs.proofs.Gets.{save-calls, second-calls, order-calls, back-calls}
-use Rattle.lending.specs.Lendings.{Lending, passes, exported, wordOf, hostAt, lendingOf, seenIn, stageIn, storeIn, Formed, allPass, Posts, wordsRead, newLending}
+use Rattle.lending.specs.Lendings.{Lending, isAnswer, exported, wordOf, hostAt, lendingOf, seenIn, stageIn, storeIn, Formed, allPass, Posts, wordsRead, newLending}
 use Rattle.lending.proofs.Exports.{sound-fitting, refusal-fails, host-run, host-back, host-formed}
 
 -- ---- words of which none is a refusal
@@ -35,11 +35,11 @@ pass-on false w e = never (cc)
 pass-granted : (l : List Answer) → allPass (map wordOf l) ≡ true → granted l ≡ true
 unfolding allPass granted wordOf
 pass-granted [] e = refl
-pass-granted (showed n ∷ l) e = pass-granted l (pass-on (passes n) (allPass (map wordOf l)) e)
-pass-granted (gave n ∷ l) e = pass-granted l (pass-on (passes n) (allPass (map wordOf l)) e)
+pass-granted (showed n ∷ l) e = pass-granted l (pass-on (isAnswer n) (allPass (map wordOf l)) e)
+pass-granted (gave n ∷ l) e = pass-granted l (pass-on (isAnswer n) (allPass (map wordOf l)) e)
 pass-granted (took ∷ l) e = pass-granted l e
-pass-granted (said f ∷ l) e = pass-granted l (pass-on (passes (boolWord f)) (allPass (map wordOf l)) e)
-pass-granted (stood c ∷ l) e = pass-granted l (pass-on (passes c) (allPass (map wordOf l)) e)
+pass-granted (said f ∷ l) e = pass-granted l (pass-on (isAnswer (boolWord f)) (allPass (map wordOf l)) e)
+pass-granted (stood c ∷ l) e = pass-granted l (pass-on (isAnswer c) (allPass (map wordOf l)) e)
 pass-granted (denied why ∷ l) e = let z : cond false (allPass (map wordOf l)) false ≡ true = ap (λ (v : Bool). cond v (allPass (map wordOf l)) false) (sym (refusal-fails why)) ∙ e in never (cc)
 
 -- ---- bytes that are those of a controller
@@ -61,7 +61,7 @@ module _ (es : List Event) (l : Lending) (k : Host) (s : Stands l k) where
   words-are = ap (λ (r : Run ℕ Lending). r .answers) run-is
 
   sends : (bytes : List ℕ) → Posts es bytes (run exported es l .answers) → Sends es bytes (run called es k .answers)
-  sends bytes p = record { sends = p .sends; grants = pass-granted (run called es k .answers) (sym (ap allPass words-are) ∙ p .passing) }
+  sends bytes p = record { sends = p .sends; grants = pass-granted (run called es k .answers) (sym (ap allPass words-are) ∙ p .none-refused) }
 
   store-is : storeIn (run exported es l .end) ≡ storeIn (lendingOf (run called es k .end))
   store-is = ap storeIn (stands .are)

@@ -33,11 +33,11 @@ use Rattle.runs.proofs.Follows.{follows}
 use Rattle.runs.proofs.Steps.{agrees}
 use Rattle.layout.specs.Layout.{regsAt, floppyBytes, Fitting}
 use Rattle.layout.proofs.Images.{formed-long}
-use Rattle.layout.proofs.Inverse.{read-back, held-back, written-back}
+use Rattle.layout.proofs.Inverse.{regs-back, held-back, written-back}
 use Rattle.words.specs.Words.{byteWord, flagWord, doneWord, receiptWord, refusalWord}
-use Rattle.host.specs.Calls.{Answered, answered}
-use Rattle.host.proofs.Same.{shownWord, changedWord, wroteWord, motor-same, track-same, disk-same, status-same, read-same, set-motor-same, set-disk-same, write-same}
-use Rattle.lending.specs.Lendings.{Lending, passes, swappedOn, afterAnswered, afterSending, askedOn, exported, wordOf, hostAt, lendingOf, Formed, Readable}
+use Rattle.host.specs.Calls.{Answered, answered, shownWord, changedWord, wroteWord}
+use Rattle.host.proofs.Same.{motor-same, track-same, disk-same, status-same, read-same, set-motor-same, set-disk-same, write-same}
+use Rattle.lending.specs.Lendings.{Lending, isAnswer, swappedOn, afterAnswered, afterSending, askedOn, exported, wordOf, hostAt, lendingOf, Formed, Readable}
 
 -- ---- numbers that fit the fields of the layout
 
@@ -82,7 +82,7 @@ number-some NoRoom = omega arith
 number-some NoTransferRoom = omega arith
 number-some LongInput = omega arith
 
-pub refusal-fails : (why : Refusal) → passes (refusalWord why) ≡ false
+pub refusal-fails : (why : Refusal) → isAnswer (refusalWord why) ≡ false
 refusal-fails why = le-ltb (refusalWord why) 256 (omega (arith, number-some why))
 
 -- ---- one call
@@ -172,7 +172,7 @@ bytes-run es l f = ap (run exported es) (sym (f .same)) ∙ host-run es (hostAt 
 -- the controller that is in the bytes of a controller that is one is that controller
 pub host-back : (k : Host) → Sound k → hostAt (lendingOf k) ≡ k
 host-back k s = λ i. record {
-  floppy = record { regs = read-back (k .floppy .regs) (k .floppy .held) (sound-fitting k s) i; held = held-back (k .floppy .regs) (k .floppy .held) i };
+  floppy = record { regs = regs-back (k .floppy .regs) (k .floppy .held) (sound-fitting k s) i; held = held-back (k .floppy .regs) (k .floppy .held) i };
   table = k .table;
   bytes = k .bytes;
   transfer = k .transfer;

@@ -60,31 +60,31 @@ unfolding small host run called diskSet newFloppy impossible commandOf commandBy
 host-small = refl
 
 -- what a host lends then
-abbrev pub lent : Lending
-lent = lendingOf host
+abbrev pub lentBytes : Lending
+lentBytes = lendingOf host
 
-pub lent-readable : Readable lent
+pub lent-readable : Readable lentBytes
 lent-readable = record {
   are-bytes = small-at (floppyBytes (host .floppy)) host-small;
   form = image-formed (host .floppy) (sound-fitting host host-sound) (host-sound .held);
   possible = ap (λ (y : Host). impossibleIn (y .transfer) (y .floppy .regs)) (host-back host host-sound) ∙ host-sound .possible;
 }
 
-lent-formed : Formed lent
-lent-formed = readable-formed lent lent-readable
+lent-formed : Formed lentBytes
+lent-formed = readable-formed lentBytes lent-readable
 
-lent-ready : Ready (seenIn lent) fresh
+lent-ready : Ready (seenIn lentBytes) fresh
 lent-ready = subst (λ (y : Host). Ready (seen y) fresh) (sym (host-back host host-sound)) host-ready
 
 -- ---- nothing is refused
 
--- lent bytes where the machine stands at a stage
+-- lentBytes bytes where the machine stands at a stage
 record At (l : Lending) (g : Stage) : Type 0 where
   pub host-there : Host
   pub stands-there : Stands l host-there
   pub is : g ≡ stageOf host-there
 
-at-start : At lent start
+at-start : At lentBytes start
 at-start = record { host-there = host; stands-there = record { sound = host-sound; are = refl }; is = host-stage }
 
 at-end : (es : List Event) (l : Lending) (g : Stage) → At l g → At (run exported es l .end) (run acted es g .end)
@@ -101,56 +101,56 @@ words l = allPass (map wordOf l)
 posts : (es : List Event) (bytes : List ℕ) (l : Lending) (g : Stage) → At l g → sentIn es ≡ some bytes → words (run acted es g .answers) ≡ true → Posts es bytes (run exported es l .answers)
 posts es bytes l g a e ok = record {
   sends = e;
-  passing = ap allPass (machine-words es l (a .host-there) (a .stands-there)) ∙ ap (λ (y : Stage). words (run acted es y .answers)) (sym (a .is)) ∙ ok;
+  none-refused = ap allPass (machine-words es l (a .host-there) (a .stands-there)) ∙ ap (λ (y : Stage). words (run acted es y .answers)) (sym (a .is)) ∙ ok;
 }
 
 tried : Tried words
 unfolding allPass wordOf run acted sendAll bytesOf example again other changeDisk newWorld named taken changed allChanged putIn responded maskRows rows commandBy commandOf seekIf startAt writeData writeReply saveAt written obeyed commandIf commandByte dataIf dataByte byteFor sent done writePort fresh freshFrom formatted idsFrom blanks sizeOf sectorAt findFrom change saved total readBytes readAt runFrom contents servedAs readData
 tried = record { first = refl; second = refl; alone = refl; behind = refl; other = refl; before = refl; begun = refl; last = refl }
 
-at-e : At (run exported E lent .end) (run acted E start .end)
-at-e = at-end E lent start at-start
+at-e : At (run exported E lentBytes .end) (run acted E start .end)
+at-e = at-end E lentBytes start at-start
 
-at-o : At (run exported O lent .end) (run acted O start .end)
-at-o = at-end O lent start at-start
+at-o : At (run exported O lentBytes .end) (run acted O start .end)
+at-o = at-end O lentBytes start at-start
 
-at-b : At (run exported B (run exported E lent .end) .end) (run acted B (run acted E start .end) .end)
-at-b = at-end B (run exported E lent .end) (run acted E start .end) at-e
+at-b : At (run exported B (run exported E lentBytes .end) .end) (run acted B (run acted E start .end) .end)
+at-b = at-end B (run exported E lentBytes .end) (run acted E start .end) at-e
 
 last-sent : sentIn L ≡ some (0xFF ∷ [])
 unfolding sentIn
 last-sent = refl
 
-posts-first : Posts E (bytesOf example) (run exported E lent .answers)
-posts-first = posts E (bytesOf example) lent start at-start (sent-all (bytesOf example)) (tried .first)
+posts-first : Posts E (bytesOf example) (run exported E lentBytes .answers)
+posts-first = posts E (bytesOf example) lentBytes start at-start (sent-all (bytesOf example)) (tried .first)
 
 -- ---- so each theorem has something to say
 
 -- table and data then hold the disk on which sector 3 of cylinder 7 has the bytes
-pub lent-saves : storeIn (run exported E lent .end) ≡ good (savedBy example fresh)
-lent-saves = save-bytes example fresh lent E lent-formed lent-ready example-is posts-first .0
+pub lent-saves : storeIn (run exported E lentBytes .end) ≡ good (savedBy example fresh)
+lent-saves = save-bytes example fresh lentBytes E lent-formed lent-ready example-is posts-first .0
 
 -- the second to sector 3 alone counts
-pub lent-second : storeIn (run exported A (run exported E lent .end) .end) ≡ storeIn (run exported A lent .end)
+pub lent-second : storeIn (run exported A (run exported E lentBytes .end) .end) ≡ storeIn (run exported A lentBytes .end)
 lent-second =
-    second-bytes example again fresh lent E A A lent-formed lent-ready example-is again-is same posts-first
-    (posts A (bytesOf again) (run exported E lent .end) (run acted E start .end) at-e (sent-all (bytesOf again)) (tried .second))
-    (posts A (bytesOf again) lent start at-start (sent-all (bytesOf again)) (tried .alone))
+    second-bytes example again fresh lentBytes E A A lent-formed lent-ready example-is again-is same posts-first
+    (posts A (bytesOf again) (run exported E lentBytes .end) (run acted E start .end) at-e (sent-all (bytesOf again)) (tried .second))
+    (posts A (bytesOf again) lentBytes start at-start (sent-all (bytesOf again)) (tried .alone))
 
 -- sectors 3 and 4 come in either order
-pub lent-order : storeIn (run exported O (run exported E lent .end) .end) ≡ storeIn (run exported E (run exported O lent .end) .end)
+pub lent-order : storeIn (run exported O (run exported E lentBytes .end) .end) ≡ storeIn (run exported E (run exported O lentBytes .end) .end)
 lent-order =
-    order-bytes example other fresh lent E O O E lent-formed lent-ready example-is other-is differ posts-first
-    (posts O (bytesOf other) (run exported E lent .end) (run acted E start .end) at-e (sent-all (bytesOf other)) (tried .behind))
-    (posts O (bytesOf other) lent start at-start (sent-all (bytesOf other)) (tried .other))
-    (posts E (bytesOf example) (run exported O lent .end) (run acted O start .end) at-o (sent-all (bytesOf example)) (tried .before))
+    order-bytes example other fresh lentBytes E O O E lent-formed lent-ready example-is other-is differ posts-first
+    (posts O (bytesOf other) (run exported E lentBytes .end) (run acted E start .end) at-e (sent-all (bytesOf other)) (tried .behind))
+    (posts O (bytesOf other) lentBytes start at-start (sent-all (bytesOf other)) (tried .other))
+    (posts E (bytesOf example) (run exported O lentBytes .end) (run acted O start .end) at-o (sent-all (bytesOf example)) (tried .before))
 
 -- and so many data-port reads give so many of the bytes and the reply
 pub lent-back : (n : ℕ) → n ≤ 519
-    → wordsRead (reads n) (run exported (reads n) (run exported L (run exported B (run exported E lent .end) .end) .end) .answers) ≡ take n Told
+    → wordsRead (reads n) (run exported (reads n) (run exported L (run exported B (run exported E lentBytes .end) .end) .end) .answers) ≡ take n Told
 lent-back n h =
     told-is n _
-    (back-bytes example fresh 0x46 0 3 0x2A 0xFF lent E B (reads n) lent-formed lent-ready example-is posts-first back-is
-    (posts B (readBytes example 0x46 0 3 0x2A) (run exported E lent .end) (run acted E start .end) at-e (sent-all (readBytes example 0x46 0 3 0x2A)) (tried .begun))
-    (posts L (0xFF ∷ []) (run exported B (run exported E lent .end) .end) (run acted B (run acted E start .end) .end) at-b last-sent (tried .last))
+    (back-bytes example fresh 0x46 0 3 0x2A 0xFF lentBytes E B (reads n) lent-formed lent-ready example-is posts-first back-is
+    (posts B (readBytes example 0x46 0 3 0x2A) (run exported E lentBytes .end) (run acted E start .end) at-e (sent-all (readBytes example 0x46 0 3 0x2A)) (tried .begun))
+    (posts L (0xFF ∷ []) (run exported B (run exported E lentBytes .end) .end) (run acted B (run acted E start .end) .end) at-b last-sent (tried .last))
     (reads-lose-none n _) (few n h))

@@ -42,14 +42,14 @@ abbrev pub afterSending : Sending → Next ℕ Lending
 afterSending (sending w c t b x) = record { answer = w; then = record { controller = c; table = t; bytes = b; transfer = x } }
 
 -- whether a word is an answer: a refusal's number stands in bits 8 to 15
-abbrev pub passes : ℕ → Bool
-passes w = ltb w 256
+abbrev pub isAnswer : ℕ → Bool
+isAnswer w = ltb w 256
 
 -- the store that is lent from then on, unless the change was refused
 abbrev pub swappedOn : Answered → List ℕ → List ℕ → Lending → Next ℕ Lending
 swappedOn (answered w c) t b l = record {
   answer = w;
-  then = cond (passes w) (record { controller = c; table = t; bytes = b; transfer = l .transfer }) (withController c l);
+  then = cond (isAnswer w) (record { controller = c; table = t; bytes = b; transfer = l .transfer }) (withController c l);
 }
 
 -- the word that answers a question
@@ -118,12 +118,12 @@ newLending t b x = record { controller = floppyBytes newFloppy; table = t; bytes
 -- whether nothing was refused
 unfoldable pub allPass : List ℕ → Bool
 allPass [] = true
-allPass (w ∷ ws) = cond (passes w) (allPass ws) false
+allPass (w ∷ ws) = cond (isAnswer w) (allPass ws) false
 
 -- a sequence in which these bytes are sent, and its words, of which none is a refusal
 pub record Posts (es : List Event) (bytes : List ℕ) (words : List ℕ) : Type 0 where
   pub sends : sentIn es ≡ some bytes
-  pub passing : allPass words ≡ true
+  pub none-refused : allPass words ≡ true
 
 -- the words that the reads of the data port answered
 unfoldable pub wordsRead : List Event → List ℕ → List ℕ

@@ -10,7 +10,7 @@ use Rattle.fields.specs.Bytes.{byteAt, numberAt}
 use Rattle.fields.specs.Model.{copies, Track, Disk, total, sectorCount}
 use Rattle.tracks.specs.Block.{rowAt, rowBy, rowPlace, rowOf, trackIn, trackOf, trackHead}
 use Rattle.image.specs.Dsk.{before}
-use Rattle.image.specs.Calls.{stepOf, tracksLeft}
+use Rattle.image.specs.Calls.{stepOf, tracksLeft, Moved, Says}
 use Rattle.fields.specs.declared.refusal.Refusal.{Refusal}
 use Rattle.tracks.specs.declared.track.Kind.{Kind}
 use Rattle.tracks.specs.declared.track.Kind.the-variants.{Normal, Extended}
@@ -21,7 +21,7 @@ use Rattle.tracks.specs.declared.track.Row.{Row}
 use Rattle.image.specs.declared.walk.Totals.{Totals}
 use Rattle.fields.proofs.Sizes.{size-most, copies-few}
 use Rattle.tracks.proofs.Tracks.{track-good, track-count}
-use Rattle.image.proofs.Steps.{Moved, Says, says, falls}
+use Rattle.image.proofs.Steps.{says, falls}
 use Rattle.listing.specs.Text.{diskWord, kindWord, trackLine, sectorLines, trackLines, printedAs}
 use Rattle.listing.specs.Lines.{rowLine, headLine, totalsLine, rowLines, blockLines}
 use Rattle.listing.proofs.Digits.{byte-digits, word-digits, all-digits}

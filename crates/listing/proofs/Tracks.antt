@@ -8,7 +8,7 @@ use Rattle.fields.specs.Refusals.{Result, good}
 use Rattle.fields.specs.Bytes.{byteAt}
 use Rattle.fields.specs.Model.{Track, Disk}
 use Rattle.tracks.specs.Block.{rowOf, sectorOf, sectorsFrom, storedFrom, trackIn, trackOf, trackHead}
-use Rattle.image.specs.Calls.{tracksLeft, tracksIn, toCome}
+use Rattle.image.specs.Calls.{tracksLeft, tracksIn, toCome, Says}
 use Rattle.fields.specs.declared.refusal.Refusal.{Refusal}
 use Rattle.fields.proofs.Tests.{never}
 use Rattle.tracks.specs.declared.track.Kind.{Kind}
@@ -17,7 +17,7 @@ use Rattle.tracks.specs.declared.track.Head.{Head}
 use Rattle.tracks.specs.declared.track.Row.{Row}
 use Rattle.image.specs.declared.walk.Step.the-variants as step
 use Rattle.tracks.proofs.Tracks.{down, by-entries, track-good, track-count}
-use Rattle.image.proofs.Steps.{Says, come-split}
+use Rattle.image.proofs.Steps.{come-split}
 use Rattle.listing.specs.Text.{sectorLine, trackLine, sectorLines, trackLines, sectorFields}
 use Rattle.listing.specs.Lines.{Laid, rowLine, headLine, rowLines, blockLines, Listable}
 use Rattle.listing.proofs.Lines.{Left, left-start, left-done, left-room, left-again}

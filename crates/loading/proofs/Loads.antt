@@ -14,7 +14,7 @@ use Rattle.fields.specs.Capacities.{mostTracks, mostSectors}
 use Rattle.fields.specs.Model.{Track, Disk, total, trackBytes, sectorCount, byteCount}
 use Rattle.tracks.specs.Block.{trackOf}
 use Rattle.image.specs.Dsk.{Dsk, dskOf}
-use Rattle.image.specs.Calls.{tracksLeft, tracksIn, toCome, surveyed, surveyOf}
+use Rattle.image.specs.Calls.{tracksLeft, tracksIn, toCome, surveyed, surveyOf, Says}
 use Rattle.fields.specs.declared.refusal.Refusal.{Refusal}
 use Rattle.fields.specs.declared.refusal.Refusal.the-variants.{BadStore, TooManyTracks, TooManySectors, NoRoom}
 use Rattle.fields.proofs.Tests.{never}
@@ -24,7 +24,7 @@ use Rattle.tracks.specs.declared.track.Head.{Head}
 use Rattle.image.specs.declared.walk.Totals.{Totals}
 use Rattle.image.specs.declared.walk.Surveyed.the-variants as survey
 use Rattle.image.specs.declared.walk.Step.the-variants as step
-use Rattle.image.proofs.Steps.{Says, come-split, GoodImage}
+use Rattle.image.proofs.Steps.{come-split, GoodImage}
 use Rattle.store.specs.Store.{tableLength, roomOf, tracksFor, tableOf, contents, dataOf}
 use Rattle.store.specs.Fresh.{fresh, freshFrom}
 use Rattle.store.specs.Calls.{outcome, laid, within, fitting, loadOf, freshOf}

@@ -1,5 +1,5 @@
 -- The drive that a command names, as the registers tell of it and as the boxes show it.
-use mathlib.Core.Path.{_≡_, refl, ap, _∙_, sym}
+use mathlib.Core.Path.{_≡_, refl, _∙_, sym}
 use Prim.Native.Nat.{ℕ}
 use mathlib.Core.Bool.{Bool, true, false}
 use mathlib.Core.List.{List}
@@ -8,13 +8,9 @@ use Rattle.fields.specs.Model.{Disk}
 use Rattle.store.specs.Store.{diskOf}
 use Rattle.registers.specs.declared.regs.Regs.{Regs}
 use Rattle.registers.specs.declared.regs.Drive.{Drive}
-use Rattle.registers.specs.Boxes.{Slot, Empty, Holds, fitted, Named, namedIf, named}
-use Rattle.registers.specs.View.{slotIf, namedIn}
+use Rattle.registers.specs.Boxes.{Empty, Holds, fitted, namedIf, named}
+use Rattle.registers.specs.View.{slotIf, namedIn, namedAs}
 use Rattle.registers.specs.Settle.{driveIf, driveNamed}
-
--- a drive with a disk in, or without one, as it is named
-abbrev pub namedAs : Bool → Drive → Slot → Named
-namedAs f d slot = record { fitted = f; cylinder = d .cylinder; slot = slot }
 
 shown : (f : Bool) (d : Drive) (disk : Result Disk)
     → namedIf f (record { cylinder = d .cylinder; slot = slotIf (d .disk) disk }) ≡ namedAs f (driveIf f d) (slotIf (driveIf f d .disk) disk)

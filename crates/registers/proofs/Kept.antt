@@ -19,41 +19,14 @@ use Rattle.registers.specs.declared.regs.Pending.{Pending}
 use Rattle.registers.specs.declared.regs.Seek.{Seek}
 use Rattle.registers.specs.declared.regs.Seek.the-variants.{Idle, Running, Done}
 use Rattle.registers.specs.Boxes.{fitted, Add, Hold, Change, Clear, MoveTo, Turn, Start, Finish, Response, Stay, Reply, ReplyIfNone, Seeking, Interrupt, Serve}
-use Rattle.registers.specs.Ports.{settled, Poll, Stays, Counts, Drops, pollBy, Source, Bytes, Replies, Neither, sourceBy}
+use Rattle.registers.specs.Ports.{settled, Poll, Stays, Counts, Drops, pollBy, sourceBy}
 use Rattle.registers.specs.View.{wrongWrite, impossible, impossibleIn}
 use Rattle.registers.specs.Settle.{regsWithMotor, regsWithDrive, sought, replied, regsTaken, regsChanged, regsAll, ifUnread, interruptedBy, regsResponded}
 use Rattle.registers.specs.Calls.{regsPolled, afterStatusOf, sourceOf, regsRead}
 use Rattle.registers.proofs.Numbers.{possible, possible-in, until-in, fitted-few}
+use Rattle.registers.specs.Possible.{Replying, Unread, Small, Lawful, Fair, AllFair, Short}
 
 -- ---- possible numbers, box by box
-
--- a command that is partly sent, an unread reply, unread data with the lost count
-pub record Partly (command : List ℕ) (count : ℕ) : Type 0 where
-  pub nine : length command ≡ 9
-  pub below : count < bytesFor (commandOf (getD command 0 0))
-
-pub record Replying (reply : List ℕ) (place fill : ℕ) : Type 0 where
-  pub seven : length reply ≡ 7
-  pub read : place ≤ fill
-  pub few : fill ≤ 7
-
-pub record Unread (from until lost room : ℕ) : Type 0 where
-  pub read : from ≤ until
-  pub inside : until ≤ room
-  pub few : lost ≤ 2
-
--- the index and the fill of a write, as small as their types say
-pub record Small (index taken : ℕ) : Type 0 where
-  pub index-fits : index < 65536
-  pub taken-fits : taken < 65536
-
--- arrays and numbers as their types say, numbers that are possible, and unread data inside the transfer room
-pub record Lawful (r : Regs) (room : ℕ) : Type 0 where
-  pub command : Partly (r .command) (r .count)
-  pub reply : Replying (r .reply) (r .place) (r .fill)
-  pub unread : Unread (r .from) (r .until) (r .lost) room
-  pub write : wrongWrite (r .write) ≡ false
-  pub small : Small (r .index) (r .write .taken)
 
 -- they are those that refusal 1 does not name
 pub lawful-so : (x : List ℕ) (r : Regs) → Lawful r (transferRoom x) → impossibleIn x r ≡ false
@@ -193,18 +166,6 @@ module _ (r : Regs) (room : ℕ) (w : Lawful r room) where
 
 -- ---- changes that a command brings
 
--- a write starts on a drive that is fitted
-abbrev pub Fair : Change → Type 0
-Fair Clear = Unit {0}
-Fair (MoveTo c) = Unit {0}
-Fair Turn = Unit {0}
-Fair (Start c1 id) = fitted c1 ≡ true
-Fair Finish = Unit {0}
-
-abbrev pub AllFair : List Change → Type 0
-AllFair [] = Unit {0}
-AllFair (x ∷ xs) = Fair x × AllFair xs
-
 module _ (room : ℕ) where
   kept-change : (x : Change) (r : Regs) → Fair x → Lawful r room → Lawful (regsChanged x r) room
   kept-change Clear r f w = record {
@@ -229,15 +190,6 @@ module _ (room : ℕ) where
 
   -- ---- responses
 
-  -- a reply is of seven bytes at most, and data fit the transfer room
-  abbrev pub Short : Response → Type 0
-  Short Stay = Unit {0}
-  Short (Reply y) = length y ≤ 7
-  Short (ReplyIfNone y) = length y ≤ 7
-  Short Seeking = Unit {0}
-  Short (Interrupt c) = Unit {0}
-  Short (Serve bytes y) = (length bytes ≤ room) × (length y ≤ 7)
-
   padded : (bytes : List ℕ) → length bytes ≤ 7 → Replying (bytes ++ replicate (7 - length bytes) 0) 0 (length bytes)
   padded bytes e = record { seven = simp (length-append, length-replicate) (omega arith); read = omega arith; few = e }
 
@@ -247,7 +199,7 @@ module _ (room : ℕ) where
   kept-sought : (s : Seek) (r : Regs) → Lawful r room → Lawful (sought s r) room
   kept-sought s r w = record { command = w .command; reply = w .reply; unread = w .unread; write = w .write; small = w .small }
 
-  pub kept-response : (x : Response) (r : Regs) → Short x → Lawful r room → Lawful (regsResponded x r) room
+  pub kept-response : (x : Response) (r : Regs) → Short room x → Lawful r room → Lawful (regsResponded x r) room
   unfolding regsResponded
   kept-response Stay r q w = w
   kept-response (Reply bytes) r q w = kept-reply bytes r q w

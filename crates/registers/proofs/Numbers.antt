@@ -1,11 +1,11 @@
 -- What is known of a controller whose numbers are possible.
 use mathlib.Core.Path.{_≡_, refl}
-use Prim.Native.Nat.{ℕ, _%_, _≤_, _<_}
+use Prim.Native.Nat.{ℕ, _≤_, _<_}
 use native.Mathlib.Omega.{arith}
 use mathlib.Core.Bool.{Bool, true, false, not, _&&_, _||_}
 use mathlib.Core.List.{List}
 use lib.ListN.{length, getD}
-use lib.Dec.{eqb, ltb, leb}
+use lib.Dec.{ltb, leb}
 use borrow.Author.Tests.{ltb-false, leb-false, not-false}
 use Rattle.fields.specs.Model.{sizeOf}
 use Rattle.fields.proofs.Tests.{never}
@@ -17,19 +17,11 @@ use Rattle.registers.specs.View.{impossible, impossibleIn, wrongWrite}
 use Rattle.codes.proofs.Rows.{bytes-range}
 use Rattle.store.proofs.Checks.{transfer-in}
 use Rattle.registers.specs.Boxes.{fitted}
+use Rattle.registers.specs.Possible.{Possible}
 
 neither : (a b : Bool) → (a || b) ≡ false → (a ≡ false) × (b ≡ false)
 neither true b e = never (cc)
 neither false b e = (refl, e)
-
--- the numbers are inside
-pub record Possible (r : Regs) : Type 0 where
-  pub place-in : r .place ≤ r .fill
-  pub from-in : r .from ≤ r .until
-  pub fill-in : r .fill ≤ 7
-  pub count-in : r .count < bytesFor (commandOf (getD (r .command) 0 0))
-  pub lost-in : r .lost ≤ 2
-  pub write-in : wrongWrite (r .write) ≡ false
 
 pub possible : (r : Regs) → impossible r ≡ false → Possible r
 unfolding impossible

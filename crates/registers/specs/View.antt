@@ -18,6 +18,7 @@ use Rattle.store.specs.declared.answer.Done.the-variants as done
 use Rattle.registers.specs.declared.regs.Told.{Told}
 use Rattle.registers.specs.declared.regs.Switched.{Switched}
 use Rattle.registers.specs.declared.regs.Byte.the-variants as byte
+use Rattle.registers.specs.declared.regs.Drive.{Drive}
 
 -- ---- The boxes
 
@@ -43,6 +44,10 @@ drivesOf r t b = drivesWith r (slotOf r t b)
 -- the drive that c1 names
 abbrev pub namedIn : ℕ → Regs → List ℕ → List ℕ → Named
 namedIn c1 r t b = named c1 (drivesOf r t b)
+
+-- a drive with a disk in, or without one, as it is named
+abbrev pub namedAs : Bool → Drive → Slot → Named
+namedAs f d slot = record { fitted = f; cylinder = d .cylinder; slot = slot }
 
 -- a write, and the one that is in progress, if the flag says that one is
 abbrev pub writingOf : Pending → List ℕ → Writing

@@ -43,7 +43,7 @@ unfolding run Each
 calls-tame [] k s = tt
 calls-tame (e ∷ es) k s = (tame k s e, calls-tame es (called e k .then) (agrees k s e .1))
 
--- A store that holds a disk holds one after any calls, if every store that a disk change names does: refusal 2 never comes.
+-- A store that holds a disk holds one after any calls, if every store that a disk change names does: no call meets one that breaks the layout.
 pub calls-hold : (es : List Event) (k : Host) → Sound k → Each SwapHolds es → HasDisk (storeOf k) → HasDisk (storeOf (run called es k .end))
 unfolding run Each
 calls-hold [] k s q h = h

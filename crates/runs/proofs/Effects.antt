@@ -31,10 +31,10 @@ use Rattle.codes.specs.declared.command.Command.the-variants.{Specify, SenseDri
 use Rattle.registers.specs.Boxes.{Setting, Slot, Empty, Holds, Drives, Writing, Named, fitted, namedIf, named, seven}
 use Rattle.registers.specs.Boxes.{Finish, Response, Stay, Reply, ReplyIfNone, Seeking, Interrupt, Serve, Effect}
 use Rattle.registers.specs.View.{settingOf, slotIf}
-use Rattle.registers.proofs.Kept.{AllFair, Short}
 use Rattle.codes.specs.Second.{u, headOf}
 use Rattle.commands.specs.Commands.{byte, idOf, whenReady, does, puts, missing, senseIf, ready, seekIf, readReply, servedAs, readData, startAt, writeData, writeReply, saveAt, written, idGiven, readId, formatOf, formatTrack, obeyed}
 use Rattle.commands.specs.Lent.{dataWith, transferWith}
+use Rattle.registers.specs.Possible.{AllFair, Short}
 
 -- ---- refusals
 

@@ -1,14 +1,12 @@
 -- Demand 3, on the calls: what a host gets.
 use mathlib.Core.Path.{_≡_, refl, sym, ap, subst, _∙_}
 use Prim.Native.Nat.{ℕ, _+_, _≤_}
-use mathlib.Core.Bool.{Bool, true, false}
 use mathlib.Core.List.{List, [], _∷_, _++_}
 use lib.ListN.{length, take}
-use Rattle.fields.specs.Refusals.{Result, good}
+use Rattle.fields.specs.Refusals.{good}
 use Rattle.fields.specs.Model.{Disk}
-use Rattle.fields.proofs.Tests.{never}
 use Rattle.registers.specs.Boxes.{Holds}
-use Rattle.registers.specs.View.{slotIf, insideOf}
+use Rattle.registers.specs.View.{insideOf}
 use Rattle.saves.specs.Events.{Event, send, Answer, Run, run}
 use Rattle.saves.specs.Stages.{Stage, acted}
 use Rattle.runs.specs.Hosts.{Host, called, seen, stageOf, storeOf, Sound}

@@ -26,7 +26,7 @@ use Rattle.registers.specs.View.{slotIf, settingOf, slotOf, drivesOf, writingOf
 use Rattle.registers.specs.Settle.{regsTaken, heldTaken, regsChanged, regsAll, regsResponded, regsOf}
 use Rattle.registers.specs.Calls.{statusRead, dataRead, motorSet, diskSet}
 use Rattle.registers.proofs.Numbers.{possible, possible-in, taken-few, count-few}
-use Rattle.registers.proofs.Kept.{Small, Lawful, lawful-so, so-lawful, lawful-wider, Short, kept-status, kept-read, kept-motor, kept-disk, kept-part, kept-last, kept-held, kept-ended, kept-changes, kept-response}
+use Rattle.registers.proofs.Kept.{lawful-so, so-lawful, lawful-wider, kept-status, kept-read, kept-motor, kept-disk, kept-part, kept-last, kept-held, kept-ended, kept-changes, kept-response}
 use Rattle.registers.proofs.Seen.{status-seen, read-seen, motor-seen, disk-seen, motor-told, track-told}
 use Rattle.commands.specs.Commands.{obeyed, written}
 use Rattle.commands.specs.Lent.{tableWith, dataWith, transferWith, Left, leftOf, Sees}
@@ -37,9 +37,10 @@ use Rattle.sending.proofs.Seen.{write-seen, disk-told}
 use Rattle.floppy.specs.Calls.{wroteAs}
 use Rattle.saves.specs.Events.{Question, motorOn?, whichTrack?, diskIn?, Event, poll, read, send, ask, switch, swap, widen, Answer, showed, gave, took, stood, denied, Next}
 use Rattle.saves.specs.Stages.{Stage, sentOn, answerTo, acted}
-use Rattle.runs.specs.Hosts.{HasDisk, SwapHolds, storeOf, Host, withFloppy, withStore, withMore, byteSaid, flagSaid, doneSaid, ifSwapped, afterWrote, askedIn, called, seen, lent, stageOf, Sound}
+use Rattle.runs.specs.Hosts.{HasDisk, SwapHolds, storeOf, Host, withFloppy, withStore, withMore, byteSaid, flagSaid, doneSaid, ifSwapped, afterWrote, askedIn, called, seen, lent, stageOf, Sound, Agrees}
 use Rattle.runs.proofs.Effects.{Tame, Clean, store-clean, Fits, Proper, obeyed-proper, Ends, written-ends, transfer-kept, room-kept}
 use mathlib.Core.Option.{Option, none, some}
+use Rattle.registers.specs.Possible.{Small, Lawful, Short}
 
 -- what is in a drive is the disk that the store holds
 pub held-is : (f : Bool) (disk : Result Disk) (d : Disk) → slotIf f disk ≡ Holds (good d) → disk ≡ good d
@@ -155,17 +156,13 @@ module _ (k : Host) (s : Sound k) where
   sound-with : (r : Regs) → Lawful r N → Sound (With r)
   sound-with r w = sound-of (With r) (s .held) w
 
-  -- the machine answers and leaves what the call does, seen; and the controller is one
-  abbrev pub Agrees : Event → Type 0
-  Agrees e = (acted e (stageOf k) ≡ record { answer = called e k .answer; then = stageOf (called e k .then) }) × Sound (called e k .then)
-
   -- ---- port reads
 
   status-lawful : Lawful (statusRead R .regs) N
   unfolding statusRead
   status-lawful = rw (possible-in (k .transfer) R (s .possible)) (kept-status R N lawful)
 
-  status-agrees : Agrees poll
+  status-agrees : Agrees k poll
   unfolding acted called
   status-agrees =
       let t = status-seen R H (k .table) (k .bytes) (k .transfer) (s .possible) (s .nine) (s .seven) in
@@ -175,7 +172,7 @@ module _ (k : Host) (s : Sound k) where
   unfolding dataRead
   read-lawful = rw (s .possible) (kept-read R N lawful)
 
-  read-agrees : Agrees read
+  read-agrees : Agrees k read
   unfolding acted called
   read-agrees =
       let t = read-seen R H (k .table) (k .bytes) (k .transfer) (s .possible) (s .nine) (s .seven) in
@@ -189,7 +186,7 @@ module _ (k : Host) (s : Sound k) where
   asked whichTrack? = sym (ap (byteSaid stood) (track-told R H (k .table) (k .bytes) (k .transfer) (s .possible) (s .nine) (s .seven)))
   asked diskIn? = sym (ap flagSaid (disk-told R H (k .table) (k .bytes) (k .transfer) (possible-in (k .transfer) R (s .possible))))
 
-  ask-agrees : (q : Question) → Agrees (ask q)
+  ask-agrees : (q : Question) → Agrees k (ask q)
   unfolding acted called
   ask-agrees q = (λ i. record { answer = asked q i; then = stageOf k }, s)
 
@@ -199,7 +196,7 @@ module _ (k : Host) (s : Sound k) where
   unfolding motorSet
   motor-lawful on = rw (possible-in (k .transfer) R (s .possible)) (kept-motor R N lawful on)
 
-  switch-agrees : (on : Bool) → Agrees (switch on)
+  switch-agrees : (on : Bool) → Agrees k (switch on)
   unfolding acted called
   switch-agrees on =
       let t = motor-seen R H (k .table) (k .bytes) (k .transfer) (s .possible) (s .nine) (s .seven) on in
@@ -213,7 +210,7 @@ module _ (k : Host) (s : Sound k) where
   swapped : (present : Bool) (t b : List ℕ) → Done → Host
   swapped present t b a = ifSwapped a t b (With (diskSet present R .regs))
 
-  swap-agrees : (present : Bool) (t b : List ℕ) → Agrees (swap present t b)
+  swap-agrees : (present : Bool) (t b : List ℕ) → Agrees k (swap present t b)
   unfolding acted called swapped
   swap-agrees present t b =
       let d = disk-seen R H (k .table) (k .bytes) (k .transfer) (s .possible) (s .nine) (s .seven) present t b in
@@ -240,7 +237,7 @@ module _ (k : Host) (s : Sound k) where
       ap (λ (l : List ℕ). record { seek = R .drive .seek; reply = slice (R .place) (R .fill) (R .reply); unread = drop (R .from) l; lost = R .lost })
       (sym (take-append-le (R .until) (k .transfer) y h))
 
-  widen-agrees : (y : List ℕ) → Agrees (widen y)
+  widen-agrees : (y : List ℕ) → Agrees k (widen y)
   unfolding acted called
   widen-agrees y = (
     λ i. record {
@@ -312,7 +309,7 @@ module _ (k : Host) (s : Sound k) where
     send-go (refused why) e q = (refl, s)
     send-go (good y) e q = (λ i. record { answer = took; then = record { setting = sym (then-lent y q) i; world = sym (then-seen y e) i } }, then-sound y q)
 
-    send-agrees : Agrees (send b)
+    send-agrees : Agrees k (send b)
     unfolding acted called
     send-agrees =
         let y : Result Sent = sent (lent k) I b in
@@ -380,7 +377,7 @@ module _ (k : Host) (s : Sound k) where
     call-holds (widen y) q = h
 
   -- A call on a controller that is one is the machine's, and leaves a controller that is one.
-  pub agrees : (e : Event) → Agrees e
+  pub agrees : (e : Event) → Agrees k e
   agrees poll = status-agrees
   agrees read = read-agrees
   agrees (send b) = send-agrees b

@@ -115,8 +115,8 @@ host-order =
     (made-back E O′ (calls-sound O host host-sound) (run acted O start .end) o-stage (bytesOf example) (sending (bytesOf example) _ (grants .before)))
 
 -- and so many data-port reads give so many of the bytes and the reply
-pub host-back : (n : ℕ) → n ≤ 519 → givenIn (run called (reads n) (run called L (run called B (run called E host .end) .end) .end) .answers) ≡ take n Told
-host-back n h =
+pub host-reads : (n : ℕ) → n ≤ 519 → givenIn (run called (reads n) (run called L (run called B (run called E host .end) .end) .end) .answers) ≡ take n Told
+host-reads n h =
     told-is n _
     (back-calls example fresh 0x46 0 3 0x2A 0xFF host E B (reads n) host-sound host-ready example-is made-first back-is
     (made-back B E′ e-sound (run acted E start .end) e-stage (readBytes example 0x46 0 3 0x2A) (sending (readBytes example 0x46 0 3 0x2A) _ (grants .begun)))

@@ -27,7 +27,7 @@ use Rattle.floppy.specs.declared.Changed.{Changed}
 use Rattle.floppy.specs.Calls.{newFloppy, changedAs, Wrote, wrote, statusCall, readCall, writeCall}
 use Rattle.saves.specs.Events.{Question, motorOn?, whichTrack?, diskIn?, Event, poll, read, send, ask, switch, swap, widen}
 use Rattle.saves.specs.Events.{Answer, showed, gave, took, said, stood, denied, Next}
-use Rattle.saves.specs.Stages.{Stage}
+use Rattle.saves.specs.Stages.{Stage, acted}
 
 -- what a host has: the controller and the three lent buffers
 pub record Host : Type 0 where
@@ -145,3 +145,7 @@ pub record Sound (k : Host) : Type 0 where
   pub index-fits : k .floppy .regs .index < 65536
   pub taken-fits : k .floppy .regs .write .taken < 65536
   pub possible : impossibleIn (k .transfer) (k .floppy .regs) ≡ false
+
+-- the machine answers and leaves what the call does, seen; and the controller is one then
+abbrev pub Agrees : Host → Event → Type 0
+Agrees k e = (acted e (stageOf k) ≡ record { answer = called e k .answer; then = stageOf (called e k .then) }) × Sound (called e k .then)

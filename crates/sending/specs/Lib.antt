@@ -2,5 +2,5 @@
 pub mod Machine
 pub mod Reads
 pub mod Sessions
--- Not needed for that: the same on the controller's numbers and the lent bytes; `write-seen` and `write-refused` (`proofs/Seen.antt`) say what it is.
+-- To be believed: which numbers and held bytes give a byte sent refusal 1. What it says of the others is, seen as boxes, the machine (`write-seen`).
 pub mod Calls

@@ -1,10 +1,11 @@
 use Rattle.image.specs.declared.walk.Step.the-variants as step
 use Prim.Native.Nat.{_-_}
 use native.Mathlib.Omega.{arith}
-use Rattle.image.proofs.Steps.{Says, Counted, says-of, falls, count-start, count-refused, count-end, count-absent, count-track}
+use Rattle.image.proofs.Steps.{Counted, says-of, falls, count-start, count-refused, count-end, count-absent, count-track}
 use borrow.Author.Needs.{needs}
 use Rattle.image.proofs.walk.totals_of.Statement.{statement}
 use Rattle.image.proofs.walk.totals_of.Tie as tie
+use Rattle.image.specs.Calls.{Says}
 
 abbrev Inv-loop : tie.InvT-loop
 Inv-loop image start walk₀ tracks₀ sectors₀ bytes₀ walk tracks sectors bytes = Counted image start walk tracks sectors bytes

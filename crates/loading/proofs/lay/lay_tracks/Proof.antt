@@ -1,11 +1,11 @@
 use mathlib.Core.Path.{refl}
 use lib.ListN.{length}
 use Rattle.fields.specs.Model.{sectorCount, byteCount}
-use Rattle.image.specs.Calls.{toCome}
+use Rattle.image.specs.Calls.{toCome, Says}
 use Prim.Native.Nat.{_+_, _-_, _*_, _≤_}
 use native.Mathlib.Omega.{arith}
 use Rattle.image.specs.declared.walk.Step.the-variants as step
-use Rattle.image.proofs.Steps.{Says, says-of, falls}
+use Rattle.image.proofs.Steps.{says-of, falls}
 use Rattle.loading.proofs.Loads.{Laying, laying-start, laying-never, laying-end, laying-absent, laying-rows, laying-bytes, laying-track}
 use borrow.Author.Needs.{needs}
 use Rattle.loading.proofs.lay.lay_tracks.Statement.{statement}
