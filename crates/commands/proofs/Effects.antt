@@ -37,9 +37,9 @@ use Rattle.registers.specs.declared.regs.Regs.{Regs}
 use Rattle.registers.specs.declared.regs.Drive.{Drive}
 use Rattle.registers.specs.declared.regs.Written.{Written}
 use Rattle.registers.specs.Boxes.{Empty, Holds, fitted, Named, seven, Turn, Start, Finish, Stay, Reply, ReplyIfNone, Serve, Effect}
-use Rattle.registers.specs.View.{slotIf, settingOf, namedIn, writingOf}
+use Rattle.registers.specs.View.{slotIf, settingOf, namedIn, writingOf, namedAs}
 use Rattle.registers.specs.Settle.{accepted, declined, driveNamed, replied, regsWithUnread, regsChanged, regsAll, regsResponded, regsOf}
-use Rattle.registers.proofs.Drives.{namedAs, drive-shown, drive-empty, drive-holds}
+use Rattle.registers.proofs.Drives.{drive-shown, drive-empty, drive-holds}
 use Rattle.commands.specs.Commands.{byte, idOf, sizesOf, ready, does, puts, noId, missing, notReady, senseIf, senseDrive, seekIf, seekTo}
 use Rattle.commands.specs.Commands.{readReply, servedAs, readData, startAt, writeData, writeReply, saveAt, written, idGiven, notReadyId, readId, formatOf, formatTrack}
 use Rattle.commands.specs.Lent.{Fills, Stores, readHere, formatHere, writtenHere}
