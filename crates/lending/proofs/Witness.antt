@@ -78,7 +78,7 @@ lent-ready = subst (λ (y : Host). Ready (seen y) fresh) (sym (host-back host ho
 
 -- ---- nothing is refused
 
--- lentBytes bytes where the machine stands at a stage
+-- lent bytes at which the machine stands at a stage
 record At (l : Lending) (g : Stage) : Type 0 where
   pub host-there : Host
   pub stands-there : Stands l host-there

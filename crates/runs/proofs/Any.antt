@@ -1,5 +1,5 @@
 -- What holds over any calls: on a controller that is one, and so from a new controller on.
-use mathlib.Core.Path.{_≡_, refl, sym, ap, _∙_}
+use mathlib.Core.Path.{_≡_, refl, sym, ap, subst, _∙_}
 use mathlib.Core.Logic.{_↔_}
 use Prim.Native.Nat.{ℕ, zero, suc, _*_, _-_, _≤_}
 use native.Mathlib.Omega.{arith}
@@ -8,21 +8,23 @@ use mathlib.Core.Option.{none}
 use lib.ListN.{length, replicate, length-replicate}
 use borrow.Author.Tests.{le-ltb}
 use Rattle.fields.specs.Capacities.{mostHeld}
-use Rattle.fields.specs.declared.refusal.Refusal.the-variants.{BadController}
+use Rattle.fields.specs.declared.refusal.Refusal.the-variants.{BadController, BadStore}
 use Rattle.store.specs.Store.{transferRoom}
 use Rattle.codes.specs.Table.{maskRows, rows, commandBy, commandOf}
 use Rattle.registers.specs.Boxes.{World}
 use Rattle.registers.specs.Ports.{polls}
-use Rattle.registers.specs.View.{settingOf, frontOf, impossible, impossibleIn}
+use Rattle.registers.specs.View.{settingOf, insideOf, frontOf, impossible, impossibleIn}
 use Rattle.registers.proofs.Numbers.{possible, possible-in}
 use Rattle.registers.proofs.Polls.{polls-empty}
 use Rattle.floppy.specs.Calls.{newFloppy}
 use Rattle.floppy.proofs.Seen.{new-seen}
 use Rattle.saves.specs.Events.{Event, poll, Answer, denied, Run, run, Each}
-use Rattle.saves.specs.Stages.{Stage, newStage, acted}
-use Rattle.runs.specs.Hosts.{Host, called, seen, stageOf, storeOf, HasDisk, SwapHolds, newHost, Sound}
+use Rattle.saves.specs.Stages.{Stage, newStage, acted, Whole, PutsWhole}
+use Rattle.saves.specs.Words.{inDrive}
+use Rattle.saves.proofs.Wholes.{run-whole}
+use Rattle.runs.specs.Hosts.{Host, called, seen, stageOf, newHost, Sound}
 use Rattle.runs.proofs.Follows.{follows}
-use Rattle.runs.proofs.Steps.{agrees, tame, call-holds}
+use Rattle.runs.proofs.Steps.{agrees, tame, unbroken, call-whole}
 
 -- ---- from a controller that is one
 
@@ -43,11 +45,16 @@ unfolding run Each
 calls-tame [] k s = tt
 calls-tame (e ∷ es) k s = (tame k s e, calls-tame es (called e k .then) (agrees k s e .1))
 
--- A store that holds a disk holds one after any calls, if every store that a disk change names does: no call meets one that breaks the layout.
-pub calls-hold : (es : List Event) (k : Host) → Sound k → Each SwapHolds es → HasDisk (storeOf k) → HasDisk (storeOf (run called es k .end))
+-- If no store that breaks the layout is in the drive, and no disk change puts one in, none is there after any calls.
+pub calls-whole : (es : List Event) (k : Host) → Sound k → Each PutsWhole es → Whole (inDrive (seen k)) → Whole (inDrive (seen (run called es k .end)))
+calls-whole es k s q h = subst (λ (r : Run Answer Stage). Whole (inDrive (r .end .world))) (calls-run es k s) (run-whole es (stageOf k) q h)
+
+-- And none of them is refused with 2.
+pub calls-unbroken : (es : List Event) (k : Host) → Sound k → Each PutsWhole es → Whole (inDrive (seen k))
+    → Each (λ (a : Answer). a ≡ denied BadStore → ⊥) (run called es k .answers)
 unfolding run Each
-calls-hold [] k s q h = h
-calls-hold (e ∷ es) k s q h = calls-hold es (called e k .then) (agrees k s e .1) (q .1) (call-holds k s h e (q .0))
+calls-unbroken [] k s q h = tt
+calls-unbroken (e ∷ es) k s q h = (unbroken k s h e, calls-unbroken es (called e k .then) (agrees k s e .1) (q .1) (call-whole k s e (q .0) h))
 
 -- ---- from a new controller
 
@@ -68,6 +75,11 @@ module _ (t b x : List ℕ) where
     -- Refusal 1 never comes.
     pub new-tame : Each (λ (a : Answer). a ≡ denied BadController → ⊥) (run called es (newHost t b x) .answers)
     new-tame = calls-tame es (newHost t b x) new-sound
+
+    -- Nor does refusal 2, if every disk that is put in is one that its store holds.
+    pub new-unbroken : Each PutsWhole es → Each (λ (a : Answer). a ≡ denied BadStore → ⊥) (run called es (newHost t b x) .answers)
+    unfolding newFloppy insideOf
+    new-unbroken q = calls-unbroken es (newHost t b x) new-sound q tt
 
 -- ---- lost bytes
 

@@ -1,5 +1,5 @@
 -- What is true of the effect of every command and of every write that ends: its changes and its response keep possible numbers possible, what it
--- lays fits the rooms that are lent, and where it refuses, it is not refusal 1.
+-- lays fits the rooms that are lent, and where it refuses, it is not refusal 1, and refusal 2 only where the store breaks the layout.
 use mathlib.Core.Path.{_≡_, refl, sym, ap, subst}
 use Prim.Native.Nat.{ℕ, _≤_, min}
 use native.Mathlib.Omega.{arith}
@@ -16,7 +16,8 @@ use Rattle.fields.specs.Refusals.{Result, refused, good, need, after}
 use Rattle.fields.specs.Model.{Sector, Disk, sectorCount, byteCount}
 use Rattle.fields.specs.declared.id.SectorId.{SectorId}
 use Rattle.fields.specs.declared.refusal.Refusal.{Refusal}
-use Rattle.fields.specs.declared.refusal.Refusal.the-variants.{BadController, TooManyTracks, TooManySectors, NoRoom, NoTransferRoom}
+use Rattle.fields.specs.declared.refusal.Refusal.the-variants.{BadController, BadStore, ShortImage, NotAnImage, NotATrack}
+use Rattle.fields.specs.declared.refusal.Refusal.the-variants.{TooManyTracks, TooManySectors, NoRoom, NoTransferRoom, LongInput}
 use Rattle.fields.proofs.Tests.{never}
 use Rattle.store.specs.Find.{Found, nothing, found}
 use Rattle.store.specs.Search.{sectorAt, sectorByIndex, readAt}
@@ -35,50 +36,67 @@ use Rattle.codes.specs.Second.{u, headOf}
 use Rattle.commands.specs.Commands.{byte, idOf, whenReady, does, puts, missing, senseIf, ready, seekIf, readReply, servedAs, readData, startAt, writeData, writeReply, saveAt, written, idGiven, readId, formatOf, formatTrack, obeyed}
 use Rattle.commands.specs.Lent.{dataWith, transferWith}
 use Rattle.registers.specs.Possible.{AllFair, Short}
+use Rattle.saves.specs.Stages.{Whole}
 
 -- ---- refusals
 
--- a refusal other than 1
-abbrev pub Tame : Refusal → Type 0
-Tame why = why ≡ BadController → ⊥
+-- what a byte may be refused with: 6, 7, 8 and 9, and 2 where the store breaks the layout
+abbrev pub MayRefuse : Type 0 → Refusal → Type 0
+MayRefuse Bad BadController = ⊥
+MayRefuse Bad BadStore = Bad
+MayRefuse Bad ShortImage = ⊥
+MayRefuse Bad NotAnImage = ⊥
+MayRefuse Bad NotATrack = ⊥
+MayRefuse Bad TooManyTracks = Unit {0}
+MayRefuse Bad TooManySectors = Unit {0}
+MayRefuse Bad NoRoom = Unit {0}
+MayRefuse Bad NoTransferRoom = Unit {0}
+MayRefuse Bad LongInput = ⊥
 
 -- what is in a drive: a store that is refused is refused for itself
-abbrev pub Clean : Slot → Type 0
-Clean Empty = Unit {0}
-Clean (Holds (refused why)) = Tame why
-Clean (Holds (good d)) = Unit {0}
+abbrev pub Clean : Type 0 → Slot → Type 0
+Clean Bad Empty = Unit {0}
+Clean Bad (Holds (refused why)) = MayRefuse Bad why
+Clean Bad (Holds (good d)) = Unit {0}
 
-pub store-clean : (f : Bool) (t b : List ℕ) → Clean (slotIf f (diskOf t b))
+-- what is in the drive is a store that breaks the layout
+abbrev pub Broken : Slot → Type 0
+Broken slot = Whole slot → ⊥
+
+pub store-clean : (f : Bool) (t b : List ℕ) → let slot : Slot = slotIf f (diskOf t b) in Clean (Broken slot) slot
 store-clean false t b = tt
 store-clean true t b = go (store.wellLaid t (roomOf b)) refl
   where
-    go : (v : Bool) → store.wellLaid t (roomOf b) ≡ v → Clean (Holds (diskOf t b))
-    go true e = subst (λ (y : Result Disk). Clean (Holds y)) (sym (disk-good t b e)) tt
-    go false e = subst (λ (y : Result Disk). Clean (Holds y)) (sym (disk-bad t b e)) (λ q. never (cc))
+    Fine : Result Disk → Type 0
+    Fine y = Clean (Broken (Holds y)) (Holds y)
+
+    go : (v : Bool) → store.wellLaid t (roomOf b) ≡ v → Fine (diskOf t b)
+    go true e = subst Fine (sym (disk-good t b e)) tt
+    go false e = subst Fine (sym (disk-bad t b e)) (λ h. h)
 
 -- ---- effects
 
-module _ (s : Setting) where
-  -- a disk that is put fits the room
-  abbrev pub Fits : Option Disk → Type 0
-  Fits none = Unit {0}
-  Fits (some y) = byteCount y ≤ s .room
+-- a disk that is put fits the room
+abbrev pub Fits : Setting → Option Disk → Type 0
+Fits s none = Unit {0}
+Fits s (some y) = byteCount y ≤ s .room
 
+module _ (Bad : Type 0) (s : Setting) where
   abbrev pub Proper : Result Effect → Type 0
-  Proper (refused why) = Tame why
-  Proper (good e) = AllFair (e .changes) × (Short (s .transfer) (e .response) × Fits (e .put))
+  Proper (refused why) = MayRefuse Bad why
+  Proper (good e) = AllFair (e .changes) × (Short (s .transfer) (e .response) × Fits s (e .put))
 
   -- a command that looks at a drive finds none, a store that is refused for itself, or a disk
-  looks : (slot : Slot) (e : Result Effect) (f : Disk → Result Effect) → Clean slot → Proper e → ((y : Disk) → slot ≡ Holds (good y) → Proper (f y)) → Proper (whenReady slot e f)
+  looks : (slot : Slot) (e : Result Effect) (f : Disk → Result Effect) → Clean Bad slot → Proper e → ((y : Disk) → slot ≡ Holds (good y) → Proper (f y)) → Proper (whenReady slot e f)
   looks Empty e f c p q = p
   looks (Holds (refused why)) e f c p q = c
   looks (Holds (good y)) e f c p q = q y refl
 
-  named-clean : (c1 : ℕ) (d : Drives) → Clean (d .first .slot) → Clean (named c1 d .slot)
+  named-clean : (c1 : ℕ) (d : Drives) → Clean Bad (d .first .slot) → Clean Bad (named c1 d .slot)
   unfolding named
   named-clean c1 d c = go (fitted c1)
     where
-      go : (v : Bool) → Clean (namedIf v (d .first) .slot)
+      go : (v : Bool) → Clean Bad (namedIf v (d .first) .slot)
       go true = c
       go false = tt
 
@@ -104,20 +122,20 @@ module _ (s : Setting) where
   sense-short c1 c true = omega arith
   sense-short c1 c false = omega arith
 
-  read-proper : (deleted : Bool) (l : List ℕ) (d : Named) → Clean (d .slot) → Proper (readData s deleted l d)
+  read-proper : (deleted : Bool) (l : List ℕ) (d : Named) → Clean Bad (d .slot) → Proper (readData s deleted l d)
   unfolding readData servedAs
   read-proper deleted l d c =
       looks (d .slot) _ _ c (tt, (omega arith, tt)) (λ y q. served (readAt y (headOf (byte l 1)) (d .cylinder) (idOf l) (byte l 6)))
     where
       fits : (v : Bool) (bytes reply : List ℕ) → leb (length bytes) (s .transfer) ≡ v → length reply ≤ 7 → Proper (need v NoTransferRoom (does [] (Serve bytes reply)))
       fits true bytes reply e g = (tt, ((leb-true (length bytes) (s .transfer) e, g), tt))
-      fits false bytes reply e g = λ q. never (cc)
+      fits false bytes reply e g = tt
 
       served : (ss : List Sector) → Proper (servedAs s deleted l ss)
       served [] = (tt, (unfold missing in omega arith, tt))
       served (z ∷ ss) = fits (leb (length (contents (z ∷ ss))) (s .transfer)) (contents (z ∷ ss)) _ refl (unfold readReply in omega arith)
 
-  write-proper : (c1 : ℕ) (id : SectorId) (d : Drives) → Clean (d .first .slot) → Proper (writeData c1 id (named c1 d))
+  write-proper : (c1 : ℕ) (id : SectorId) (d : Drives) → Clean Bad (d .first .slot) → Proper (writeData c1 id (named c1 d))
   unfolding writeData startAt
   write-proper c1 id d c =
       looks (named c1 d .slot) _ _ (named-clean c1 d c) (tt, (omega arith, tt))
@@ -127,7 +145,7 @@ module _ (s : Setting) where
       by f nothing = (tt, (unfold missing in omega arith, tt))
       by f (found k z) = ((f, tt), (tt, tt))
 
-  read-id-proper : (c1 index : ℕ) (d : Named) → Clean (d .slot) → Proper (readId c1 index d)
+  read-id-proper : (c1 index : ℕ) (d : Named) → Clean Bad (d .slot) → Proper (readId c1 index d)
   unfolding readId idGiven
   read-id-proper c1 index d c = looks (d .slot) _ _ c (tt, (omega arith, tt)) (λ y q. by (sectorByIndex y (headOf c1) (d .cylinder) index))
     where
@@ -135,7 +153,7 @@ module _ (s : Setting) where
       by nothing = ((tt, tt), (unfold missing in omega arith, tt))
       by (found k z) = ((tt, tt), (omega arith, tt))
 
-  format-proper : (l : List ℕ) (d : Named) → Clean (d .slot) → Proper (formatTrack s l d)
+  format-proper : (l : List ℕ) (d : Named) → Clean Bad (d .slot) → Proper (formatTrack s l d)
   unfolding formatTrack within
   format-proper l d c =
       looks (d .slot) _ _ c (tt, (omega arith, tt))
@@ -143,15 +161,15 @@ module _ (s : Setting) where
     where
       all : (p q v : Bool) (y : Disk) → leb (byteCount y) (s .room) ≡ v
           → Proper (after (need p TooManyTracks (need q TooManySectors (need v NoRoom (good y)))) (λ z. puts [] z (seven (u (byte l 1)) 0 0 (record { c = 0; h = 0; r = 0; n = byte l 2 }))))
-      all false q v y e = λ z. never (cc)
-      all true false v y e = λ z. never (cc)
-      all true true false y e = λ z. never (cc)
+      all false q v y e = tt
+      all true false v y e = tt
+      all true true false y e = tt
       all true true true y e = (tt, (omega arith, leb-true (byteCount y) (s .room) e))
 
       fits : (y : Disk) → Proper (after (fitting (s .room) y) (λ z. puts [] z (seven (u (byte l 1)) 0 0 (record { c = 0; h = 0; r = 0; n = byte l 2 }))))
       fits y = all (leb (length y) mostTracks) (leb (sectorCount y) mostSectors) (leb (byteCount y) (s .room)) y refl
 
-  pub obeyed-proper : (k : Command) (l : List ℕ) (d : Drives) (index : ℕ) → Clean (d .first .slot) → Proper (obeyed s k l d index)
+  pub obeyed-proper : (k : Command) (l : List ℕ) (d : Drives) (index : ℕ) → Clean Bad (d .first .slot) → Proper (obeyed s k l d index)
   unfolding obeyed
   obeyed-proper Specify l d i c = (tt, (tt, tt))
   obeyed-proper SenseDrive l d i c = (tt, (sense-short (byte l 1) (named (byte l 1) d .cylinder) (ready (named (byte l 1) d .slot)), tt))
@@ -169,22 +187,22 @@ module _ (s : Setting) where
 
   -- a write that ends is done with, and does no more inside
   abbrev pub Ends : Result Effect → Type 0
-  Ends (refused why) = Tame why
-  Ends (good e) = (e .changes ≡ Finish ∷ []) × (Short (s .transfer) (e .response) × Fits (e .put))
+  Ends (refused why) = MayRefuse Bad why
+  Ends (good e) = (e .changes ≡ Finish ∷ []) × (Short (s .transfer) (e .response) × Fits s (e .put))
 
-  pub written-ends : (w : Writing) (d : Drives) → Clean (d .first .slot) → Ends (written s w (named (w .c1) d))
+  pub written-ends : (w : Writing) (d : Drives) → Clean Bad (d .first .slot) → Ends (written s w (named (w .c1) d))
   unfolding written saveAt writeReply
   written-ends w d c = go (named (w .c1) d .slot) (named-clean (w .c1) d c)
     where
       fits : (v : Bool) (new : Disk) → leb (byteCount new) (s .room) ≡ v → Ends (need v NoRoom (puts (Finish ∷ []) new (writeReply w)))
       fits true new e = (refl, (omega arith, leb-true (byteCount new) (s .room) e))
-      fits false new e = λ q. never (cc)
+      fits false new e = tt
 
       by : (new : Disk) (z : Found Sector) → Ends (saveAt s w new z)
       by new nothing = (refl, (omega arith, tt))
       by new (found k z) = fits (leb (byteCount new) (s .room)) new refl
 
-      go : (slot : Slot) → Clean slot → Ends (whenReady slot (does (Finish ∷ []) (Reply (writeReply w)))
+      go : (slot : Slot) → Clean Bad slot → Ends (whenReady slot (does (Finish ∷ []) (Reply (writeReply w)))
           (λ y. saveAt s w (saved (headOf (w .c1)) (named (w .c1) d .cylinder) (w .id) (w .held) y) (sectorAt y (headOf (w .c1)) (named (w .c1) d .cylinder) (w .id))))
       go Empty q = (refl, (omega arith, tt))
       go (Holds (refused why)) q = q

@@ -10,7 +10,8 @@ use borrow.Author.Tests.{eqb-false}
 use Rattle.fields.specs.Capacities.{mostHeld, mostTransfer}
 use Rattle.fields.specs.Refusals.{Result, refused, good, after}
 use Rattle.fields.specs.Model.{sizeOf, Disk}
-use Rattle.fields.specs.declared.refusal.Refusal.the-variants.{BadController}
+use Rattle.fields.specs.declared.refusal.Refusal.{Refusal}
+use Rattle.fields.specs.declared.refusal.Refusal.the-variants.{BadController, BadStore}
 use Rattle.fields.proofs.Sizes.{size-most}
 use Rattle.fields.proofs.Tests.{never}
 use Rattle.store.specs.Store.{roomOf, transferRoom, diskOf}
@@ -36,9 +37,11 @@ use Rattle.sending.proofs.Sends.{all-first, all-length, sent-right, sent-data, 
 use Rattle.sending.proofs.Seen.{write-seen, disk-told}
 use Rattle.floppy.specs.Calls.{wroteAs}
 use Rattle.saves.specs.Events.{Question, motorOn?, whichTrack?, diskIn?, Event, poll, read, send, ask, switch, swap, widen, Answer, showed, gave, took, stood, denied, Next}
-use Rattle.saves.specs.Stages.{Stage, sentOn, answerTo, acted}
-use Rattle.runs.specs.Hosts.{HasDisk, SwapHolds, storeOf, Host, withFloppy, withStore, withMore, byteSaid, flagSaid, doneSaid, ifSwapped, afterWrote, askedIn, called, seen, lent, stageOf, Sound, Agrees}
-use Rattle.runs.proofs.Effects.{Tame, Clean, store-clean, Fits, Proper, obeyed-proper, Ends, written-ends, transfer-kept, room-kept}
+use Rattle.saves.specs.Stages.{Stage, sentOn, answerTo, acted, Whole, PutsWhole}
+use Rattle.saves.specs.Words.{inDrive}
+use Rattle.saves.proofs.Wholes.{acted-whole}
+use Rattle.runs.specs.Hosts.{Host, withFloppy, withStore, withMore, byteSaid, flagSaid, doneSaid, ifSwapped, afterWrote, askedIn, called, seen, lent, stageOf, Sound, Agrees}
+use Rattle.runs.proofs.Effects.{MayRefuse, Clean, Broken, store-clean, Fits, Proper, obeyed-proper, Ends, written-ends, transfer-kept, room-kept}
 use mathlib.Core.Option.{Option, none, some}
 use Rattle.registers.specs.Possible.{Small, Lawful, Short}
 
@@ -57,6 +60,9 @@ module _ (r : Regs) (b : ℕ) (h t d x : List ℕ) (ok : impossibleIn x r ≡ fa
   abbrev Room : ℕ
   Room = transferRoom x
 
+  abbrev Bad : Type 0
+  Bad = Broken (slotOf r t d)
+
   w : Lawful r Room
   w = so-lawful x r nine seven small ok
 
@@ -64,25 +70,25 @@ module _ (r : Regs) (b : ℕ) (h t d x : List ℕ) (ok : impossibleIn x r ≡ fa
   abbrev pub Regs′ : Sent → Regs
   Regs′ y = regsResponded (y .effect .response) (regsAll (y .effect .changes) (regsTaken (y .taking) r))
 
-  -- possible numbers, held bytes as many as they were, and what was laid fits the rooms; a refusal is not 1
+  -- possible numbers, held bytes as many as they were, and what was laid fits the rooms; a refusal is not 1, and 2 only where the store breaks the layout
   abbrev pub Keeps : Result Sent → Type 0
-  Keeps (refused why) = Tame why
+  Keeps (refused why) = MayRefuse Bad why
   Keeps (good y) =
       Lawful (Regs′ y) Room × ((length (heldTaken (y .taking) r h) ≡ mostHeld) × (Short Room (y .effect .response) × Fits S (y .effect .put)))
 
   few : r .count < 9
   few = count-few r (possible-in x r ok)
 
-  clean : Clean (drivesOf r t d .first .slot)
+  clean : Clean Bad (drivesOf r t d .first .slot)
   clean = store-clean (r .drive .disk) t d
 
   command-keeps : (v : Bool) (k : Command) (l : List ℕ) → (v ≡ false → r .count + 1 ≡ bytesFor (commandOf (getD (set (r .command) (r .count) b) 0 0)) → ⊥)
       → Keeps (sends (Add b) (commandIf v S k l (drivesOf r t d) (r .index)))
   unfolding commandIf
   command-keeps false k l q = unfold regsAll regsResponded in (kept-part r Room w b (q refl), (long, (tt, tt)))
-  command-keeps true k l q = go (obeyed S k l (drivesOf r t d) (r .index)) (obeyed-proper S k l (drivesOf r t d) (r .index) clean)
+  command-keeps true k l q = go (obeyed S k l (drivesOf r t d) (r .index)) (obeyed-proper Bad S k l (drivesOf r t d) (r .index) clean)
     where
-      go : (e : Result Effect) → Proper S e → Keeps (sends (Add b) (clearing e))
+      go : (e : Result Effect) → Proper Bad S e → Keeps (sends (Add b) (clearing e))
       go (refused why) p = p
       go (good e) p =
           let l = kept-changes Room (e .changes) (regsChanged Clear (regsTaken (Add b) r)) (p .0) (kept-last r Room w b) in
@@ -95,9 +101,9 @@ module _ (r : Regs) (b : ℕ) (h t d x : List ℕ) (ok : impossibleIn x r ≡ fa
       let z : r .write .taken + 1 < sizeOf (r .write .id .n) = omega (arith, taken-few (r .write) (w .write) on, q refl) in
       (kept-held r Room w b on z, (length-set h (r .write .taken) b ∙ long, (tt, tt)))
   data-keeps on true l q =
-      go (written S (writingOf (r .write) l) (named (r .write .c1) (drivesOf r t d))) (written-ends S (writingOf (r .write) l) (drivesOf r t d) clean)
+      go (written S (writingOf (r .write) l) (named (r .write .c1) (drivesOf r t d))) (written-ends Bad S (writingOf (r .write) l) (drivesOf r t d) clean)
     where
-      go : (e : Result Effect) → Ends S e → Keeps (sends (Hold b) e)
+      go : (e : Result Effect) → Ends Bad S e → Keeps (sends (Hold b) e)
       go (refused why) p = p
       go (good e) p =
           let l : Lawful (regsAll (Finish ∷ []) (regsTaken (Hold b) r)) Room = kept-ended r Room w b in (
@@ -252,6 +258,10 @@ module _ (k : Host) (s : Sound k) where
   abbrev I : Inside
   I = insideOf R H (slotOf R (k .table) (k .bytes))
 
+  -- what it may be refused with
+  abbrev May : Refusal → Type 0
+  May = MayRefuse (Broken (slotOf R (k .table) (k .bytes)))
+
   abbrev LeftAs : Result Sent → Left
   LeftAs y = leftOf y R H (k .table) (k .bytes) (k .transfer)
 
@@ -319,62 +329,29 @@ module _ (k : Host) (s : Sound k) where
           subst (λ (l : Left). Sound (CalledAs l .then)) (sym (write-as y refl)) (z .1),
         )
 
-    -- a byte that is refused is not refused with 1
-    sent-tame : (y : Result Sent) → KeepsAs y → sentOn (stageOf k) (after y (λ v. good (done (seen k) v))) .answer ≡ denied BadController → ⊥
-    sent-tame (refused why) q e = q (cc)
-    sent-tame (good y) q e = never (cc)
+    -- a byte that is refused is refused with nothing else
+    sent-refused : (y : Result Sent) → KeepsAs y → (why : Refusal) → sentOn (stageOf k) (after y (λ v. good (done (seen k) v))) .answer ≡ denied why → May why
+    sent-refused (refused z) q why e = let p : z ≡ why = cc in subst May p q
+    sent-refused (good y) q why e = never (cc)
 
-    send-tame : acted (send b) (stageOf k) .answer ≡ denied BadController → ⊥
+    send-refused : (why : Refusal) → acted (send b) (stageOf k) .answer ≡ denied why → May why
     unfolding acted
-    send-tame e =
+    send-refused why e =
         let y : Result Sent = sent (lent k) I b in
-        sent-tame y (sent-keeps R b H (k .table) (k .bytes) (k .transfer) (s .possible) (s .nine) (s .seven) small (s .held))
+        sent-refused y (sent-keeps R b H (k .table) (k .bytes) (k .transfer) (s .possible) (s .nine) (s .seven) small (s .held)) why
         (sym (ap (λ (z : Result World). sentOn (stageOf k) z .answer) (port-as y refl)) ∙ e)
 
-  acted-tame : (e : Event) → acted e (stageOf k) .answer ≡ denied BadController → ⊥
+  acted-refused : (e : Event) (why : Refusal) → acted e (stageOf k) .answer ≡ denied why → May why
   unfolding acted answerTo
-  acted-tame poll q = never (cc)
-  acted-tame read q = never (cc)
-  acted-tame (send b) q = send-tame b q
-  acted-tame (ask motorOn?) q = never (cc)
-  acted-tame (ask whichTrack?) q = never (cc)
-  acted-tame (ask diskIn?) q = never (cc)
-  acted-tame (switch on) q = never (cc)
-  acted-tame (swap present t b) q = never (cc)
-  acted-tame (widen y) q = never (cc)
-
-  -- ---- a store that holds a disk holds one then
-
-  module _ (h : HasDisk (storeOf k)) where
-    put-holds : (b : ℕ) (y : Sent) → sent (lent k) I b ≡ good y → (p : Option Disk) → y .effect .put ≡ p → HasDisk (storeOf (Then y))
-    unfolding insideOf done putIn
-    put-holds b y e none q = record { disk = h .disk; holds = ap (λ (z : Option Disk). diskOf (tableWith z (k .table)) (dataWith z (k .bytes))) q ∙ h .holds }
-    put-holds b y e (some d) q =
-        let i : Inside = allChanged (y .effect .changes) (taken (y .taking) (seen k .inside)) in
-        let slot : slotIf (Then y .floppy .regs .drive .disk) (storeOf (Then y)) ≡ Holds (good d)
-        = ap (λ (w : World). w .inside .drives .first .slot) (then-seen b y e) ∙ ap (λ (z : Option Disk). putIn z i .drives .first .slot) q in
-        record { disk = d; holds = held-is (Then y .floppy .regs .drive .disk) (storeOf (Then y)) d slot }
-
-    sent-holds : (b : ℕ) (y : Result Sent) → sent (lent k) I b ≡ y → HasDisk (storeOf (afterWrote (wroteAs (LeftAs y)) .then))
-    unfolding leftOf regsOf
-    sent-holds b (refused why) e = h
-    sent-holds b (good y) e = put-holds b y e (y .effect .put) refl
-
-    swap-holds : (a : Done) (t b : List ℕ) (j : Host) → HasDisk (diskOf t b) → HasDisk (storeOf j) → HasDisk (storeOf (ifSwapped a t b j))
-    swap-holds finished.Good t b j new old = new
-    swap-holds (finished.Refused why) t b j new old = old
-
-    pub call-holds : (e : Event) → SwapHolds e → HasDisk (storeOf (called e k .then))
-    unfolding called SwapHolds
-    call-holds poll q = h
-    call-holds read q = h
-    call-holds (send b) q =
-        let y : Result Sent = sent (lent k) I b in
-        subst (λ (l : Left). HasDisk (storeOf (afterWrote (wroteAs l) .then))) (sym (write-as b y refl)) (sent-holds b y refl)
-    call-holds (ask q) z = h
-    call-holds (switch on) q = h
-    call-holds (swap present t b) q = swap-holds (diskSet present R .done) t b (With (diskSet present R .regs)) q h
-    call-holds (widen y) q = h
+  acted-refused poll why q = never (cc)
+  acted-refused read why q = never (cc)
+  acted-refused (send b) why q = send-refused b why q
+  acted-refused (ask motorOn?) why q = never (cc)
+  acted-refused (ask whichTrack?) why q = never (cc)
+  acted-refused (ask diskIn?) why q = never (cc)
+  acted-refused (switch on) why q = never (cc)
+  acted-refused (swap present t b) why q = never (cc)
+  acted-refused (widen y) why q = never (cc)
 
   -- A call on a controller that is one is the machine's, and leaves a controller that is one.
   pub agrees : (e : Event) → Agrees k e
@@ -386,6 +363,17 @@ module _ (k : Host) (s : Sound k) where
   agrees (swap present t b) = swap-agrees present t b
   agrees (widen y) = widen-agrees y
 
-  -- and it is not refused with 1
+  called-refused : (e : Event) (why : Refusal) → called e k .answer ≡ denied why → May why
+  called-refused e why q = acted-refused e why (ap (λ (y : Next Answer Stage). y .answer) (agrees e .0) ∙ q)
+
+  -- and it is not refused with 1, nor with 2 where no store that breaks the layout is in the drive
   pub tame : (e : Event) → called e k .answer ≡ denied BadController → ⊥
-  tame e q = acted-tame e (ap (λ (y : Next Answer Stage). y .answer) (agrees e .0) ∙ q)
+  tame e q = called-refused e BadController q
+
+  pub unbroken : Whole (inDrive (seen k)) → (e : Event) → called e k .answer ≡ denied BadStore → ⊥
+  unfolding insideOf
+  unbroken h e q = called-refused e BadStore q h
+
+  -- so is none there then
+  pub call-whole : (e : Event) → PutsWhole e → Whole (inDrive (seen k)) → Whole (inDrive (seen (called e k .then)))
+  call-whole e q h = subst (λ (y : Next Answer Stage). Whole (inDrive (y .then .world))) (agrees e .0) (acted-whole e (stageOf k) q h)

@@ -5,8 +5,8 @@ use mathlib.Core.Bool.{true}
 use mathlib.Core.List.{List, [], _∷_}
 use lib.ListN.{length, take, replicate, length-replicate}
 use Rattle.fields.specs.Capacities.{mostTracks, mostSectors, mostData, mostTransfer}
-use Rattle.fields.specs.Refusals.{good}
-use Rattle.fields.specs.Model.{sizeOf, total, sectorCount, byteCount}
+use Rattle.fields.specs.Refusals.{Result, good}
+use Rattle.fields.specs.Model.{sizeOf, Disk, total, sectorCount, byteCount}
 use Rattle.tracks.specs.Rows.{idsFrom}
 use Rattle.buffer.specs.Over.{over}
 use Rattle.store.specs.Store.{tableLength, roomOf, transferRoom, tableOf, dataOf, diskOf}
@@ -15,8 +15,8 @@ use borrow.Author.Tests.{leb-true}
 use Rattle.store.specs.Fresh.{blanks, formatted, freshFrom, fresh}
 use Rattle.registers.specs.Boxes.{Holds, newWorld}
 use Rattle.registers.specs.Ports.{changeDisk}
-use Rattle.saves.specs.Events.{swap, Answer, Run, run}
-use Rattle.saves.specs.Stages.{Stage, acted}
+use Rattle.saves.specs.Events.{swap, Answer, Run, run, Each}
+use Rattle.saves.specs.Stages.{Stage, acted, Whole, PutsWhole}
 use Rattle.runs.specs.Hosts.{Host, called, seen, stageOf, newHost, storeOf, Sound}
 use Rattle.runs.proofs.Any.{calls-sound, new-sound, new-run}
 use Rattle.runs.proofs.Effects.{laid-kept}
@@ -69,6 +69,11 @@ host-stage =
 
 pub host-ready : Ready (seen host) fresh
 host-ready = subst (λ (g : Stage). Ready (g .world) fresh) host-stage start-ready
+
+-- the disk that is put in is one that its store holds: refusal 2 never comes
+pub host-whole : Each PutsWhole (swap true freshTable freshBytes ∷ [])
+unfolding Each PutsWhole
+host-whole = (subst (λ (y : Result Disk). Whole (Holds y)) (sym fresh-laid) tt, tt)
 
 -- where the calls stand
 abbrev E′ : Host

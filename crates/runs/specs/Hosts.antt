@@ -118,20 +118,6 @@ stageOf k = record { setting = lent k; world = seen k }
 abbrev pub storeOf : Host → Result Disk
 storeOf k = diskOf (k .table) (k .bytes)
 
--- a store that holds a disk; and a call that lends no other, unless that one does
-pub record HasDisk (store : Result Disk) : Type 0 where
-  pub disk : Disk
-  pub holds : store ≡ good disk
-
-unfoldable pub SwapHolds : Event → Type 0
-SwapHolds poll = Unit {0}
-SwapHolds read = Unit {0}
-SwapHolds (send b) = Unit {0}
-SwapHolds (ask q) = Unit {0}
-SwapHolds (switch on) = Unit {0}
-SwapHolds (swap present t b) = HasDisk (diskOf t b)
-SwapHolds (widen y) = Unit {0}
-
 -- a new controller, with buffers lent
 abbrev pub newHost : List ℕ → List ℕ → List ℕ → Host
 newHost t b x = record { floppy = newFloppy; table = t; bytes = b; transfer = x }

@@ -1,7 +1,8 @@
--- Laws of searches and changes, and the theorems of demand 3.
+-- Laws of searches and changes, the theorems of demand 3, and what is in the drive after any calls.
 pub mod Finds
 pub mod Places
 pub mod Feeding
 pub mod Demand
 pub mod ReadBack
+pub mod Wholes
 pub mod Witness

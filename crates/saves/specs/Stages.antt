@@ -5,7 +5,7 @@ use lib.ListN.{length}
 use Rattle.fields.specs.Capacities.{mostTransfer}
 use Rattle.fields.specs.Refusals.{Result, refused, good}
 use Rattle.store.specs.Store.{roomOf, diskOf}
-use Rattle.registers.specs.Boxes.{Setting, World, newWorld}
+use Rattle.registers.specs.Boxes.{Setting, Slot, Empty, Holds, World, newWorld}
 use Rattle.registers.specs.Ports.{status, afterStatus, portByte, afterRead, setMotor, changeDisk}
 use Rattle.registers.specs.View.{slotIf}
 use Rattle.commands.specs.Commands.{ready}
@@ -54,3 +54,19 @@ acted (switch on) g = record { answer = took; then = withWorld (setMotor on (g .
 acted (swap present t b) g =
     record { answer = took; then = record { setting = roomed b (g .setting); world = changeDisk (slotIf present (diskOf t b)) (g .world) } }
 acted (widen y) g = record { answer = took; then = record { setting = widened y (g .setting); world = g .world } }
+
+-- no store that breaks the layout is in the drive
+abbrev pub Whole : Slot → Type 0
+Whole Empty = Unit {0}
+Whole (Holds (refused why)) = ⊥
+Whole (Holds (good d)) = Unit {0}
+
+-- a disk change puts in none, or one that its store holds; no other call puts one in
+unfoldable pub PutsWhole : Event → Type 0
+PutsWhole poll = Unit {0}
+PutsWhole read = Unit {0}
+PutsWhole (send b) = Unit {0}
+PutsWhole (ask q) = Unit {0}
+PutsWhole (switch on) = Unit {0}
+PutsWhole (swap present t b) = Whole (slotIf present (diskOf t b))
+PutsWhole (widen y) = Unit {0}
