@@ -5,7 +5,7 @@ use std::fmt;
 use crate::{Refusal, calls};
 
 /// Why a question to a disk is not refused: what a load or a fresh format lays is accepted, and what came from a host
-/// was judged; after any calls it still is: `load-left`, `fresh-left`, `bytes-whole` (docs/PROMISES.md).
+/// was judged; after any calls it still is: `load-left`, `fresh-left`, `bytes-unbroken` (docs/PROMISES.md).
 const HOLDS: &str = "a disk's table and data hold a disk: the library has laid or judged them";
 
 /// The ID of a sector, as it stands on the track. Two sectors of a track may have the same ID; the first counts.

@@ -18,11 +18,11 @@ use Rattle.words.specs.Words.{boolWord}
 use Rattle.host.proofs.Same.{image-formed}
 use Rattle.saves.specs.Events.{Question, motorOn?, whichTrack?, diskIn?, Event, poll, read, send, ask, switch, swap, widen}
 use Rattle.saves.specs.Events.{Answer, showed, gave, took, said, stood, denied, Run, run, granted, Each}
-use Rattle.saves.specs.Stages.{Stage, newStage, answerTo, acted, Whole, PutsWhole}
-use Rattle.saves.proofs.Wholes.{run-whole}
+use Rattle.saves.specs.Stages.{Stage, newStage, answerTo, acted, Unbroken, PutsUnbroken}
+use Rattle.saves.proofs.Unbrokens.{run-unbroken}
 use Rattle.saves.specs.Words.{inDrive, Ready, Save, bytesOf, addressOf, IsSave, savedBy, Sends, Only, ReadsBack, readBytes, replyTo, LosesNone, dataReads, givenIn}
 use Rattle.runs.specs.Hosts.{Host, called, seen, stageOf, newHost, Sound}
-use Rattle.runs.proofs.Any.{calls-run, calls-sound, calls-tame, new-sound, new-run, polls-calls, calls-unbroken}
+use Rattle.runs.proofs.Any.{calls-run, calls-sound, calls-tame, new-sound, new-run, polls-calls, calls-never-2}
 use Rattle.runs.proofs.Gets.{save-calls, second-calls, order-calls, back-calls}
 use Rattle.lending.specs.Lendings.{Lending, isAnswer, exported, wordOf, hostAt, lendingOf, seenIn, stageIn, storeIn, Formed, allPass, Posts, wordsRead, newLending}
 use Rattle.lending.proofs.Exports.{sound-fitting, refusal-fails, host-run, host-back, host-formed}
@@ -104,13 +104,13 @@ module _ (es : List Event) (l : Lending) (f : Formed l) where
   bytes-tame = (words-are es l (hostAt l) (here l f), calls-tame es (hostAt l) (f .sound))
 
 -- If no store that breaks the layout is in the drive, and no disk change puts one in, none is there after any calls, and no answer is refusal 2.
-pub bytes-whole : (es : List Event) (l : Lending) → Formed l → Each PutsWhole es → Whole (inDrive (seenIn l)) → Whole (inDrive (seenIn (run exported es l .end)))
-bytes-whole es l f q h = subst (λ (g : Stage). Whole (inDrive (g .world))) (sym (bytes-end es l f)) (run-whole es (stageIn l) q h)
+pub bytes-unbroken : (es : List Event) (l : Lending) → Formed l → Each PutsUnbroken es → Unbroken (inDrive (seenIn l)) → Unbroken (inDrive (seenIn (run exported es l .end)))
+bytes-unbroken es l f q h = subst (λ (g : Stage). Unbroken (inDrive (g .world))) (sym (bytes-end es l f)) (run-unbroken es (stageIn l) q h)
 
-pub bytes-unbroken : (es : List Event) (l : Lending) → Formed l → Each PutsWhole es → Whole (inDrive (seenIn l))
+pub bytes-never-2 : (es : List Event) (l : Lending) → Formed l → Each PutsUnbroken es → Unbroken (inDrive (seenIn l))
     → (run exported es l .answers ≡ map wordOf (run called es (hostAt l) .answers))
     × Each (λ (a : Answer). a ≡ denied BadStore → ⊥) (run called es (hostAt l) .answers)
-bytes-unbroken es l f q h = (words-are es l (hostAt l) (here l f), calls-unbroken es (hostAt l) (f .sound) q h)
+bytes-never-2 es l f q h = (words-are es l (hostAt l) (here l f), calls-never-2 es (hostAt l) (f .sound) q h)
 
 -- They have the form that a controller has, and no call refuses them with 1.
 pub formed-read : (l : Lending) → Formed l → (formed (l .controller) ≡ true) × (impossibleIn (l .transfer) (regsAt (l .controller)) ≡ false)

@@ -19,12 +19,12 @@ use Rattle.registers.proofs.Polls.{polls-empty}
 use Rattle.floppy.specs.Calls.{newFloppy}
 use Rattle.floppy.proofs.Seen.{new-seen}
 use Rattle.saves.specs.Events.{Event, poll, Answer, denied, Run, run, Each}
-use Rattle.saves.specs.Stages.{Stage, newStage, acted, Whole, PutsWhole}
+use Rattle.saves.specs.Stages.{Stage, newStage, acted, Unbroken, PutsUnbroken}
 use Rattle.saves.specs.Words.{inDrive}
-use Rattle.saves.proofs.Wholes.{run-whole}
+use Rattle.saves.proofs.Unbrokens.{run-unbroken}
 use Rattle.runs.specs.Hosts.{Host, called, seen, stageOf, newHost, Sound}
 use Rattle.runs.proofs.Follows.{follows}
-use Rattle.runs.proofs.Steps.{agrees, tame, unbroken, call-whole}
+use Rattle.runs.proofs.Steps.{agrees, tame, never-2, call-unbroken}
 
 -- ---- from a controller that is one
 
@@ -46,15 +46,15 @@ calls-tame [] k s = tt
 calls-tame (e ∷ es) k s = (tame k s e, calls-tame es (called e k .then) (agrees k s e .1))
 
 -- If no store that breaks the layout is in the drive, and no disk change puts one in, none is there after any calls.
-pub calls-whole : (es : List Event) (k : Host) → Sound k → Each PutsWhole es → Whole (inDrive (seen k)) → Whole (inDrive (seen (run called es k .end)))
-calls-whole es k s q h = subst (λ (r : Run Answer Stage). Whole (inDrive (r .end .world))) (calls-run es k s) (run-whole es (stageOf k) q h)
+pub calls-unbroken : (es : List Event) (k : Host) → Sound k → Each PutsUnbroken es → Unbroken (inDrive (seen k)) → Unbroken (inDrive (seen (run called es k .end)))
+calls-unbroken es k s q h = subst (λ (r : Run Answer Stage). Unbroken (inDrive (r .end .world))) (calls-run es k s) (run-unbroken es (stageOf k) q h)
 
 -- And none of them is refused with 2.
-pub calls-unbroken : (es : List Event) (k : Host) → Sound k → Each PutsWhole es → Whole (inDrive (seen k))
+pub calls-never-2 : (es : List Event) (k : Host) → Sound k → Each PutsUnbroken es → Unbroken (inDrive (seen k))
     → Each (λ (a : Answer). a ≡ denied BadStore → ⊥) (run called es k .answers)
 unfolding run Each
-calls-unbroken [] k s q h = tt
-calls-unbroken (e ∷ es) k s q h = (unbroken k s h e, calls-unbroken es (called e k .then) (agrees k s e .1) (q .1) (call-whole k s e (q .0) h))
+calls-never-2 [] k s q h = tt
+calls-never-2 (e ∷ es) k s q h = (never-2 k s h e, calls-never-2 es (called e k .then) (agrees k s e .1) (q .1) (call-unbroken k s e (q .0) h))
 
 -- ---- from a new controller
 
@@ -77,9 +77,9 @@ module _ (t b x : List ℕ) where
     new-tame = calls-tame es (newHost t b x) new-sound
 
     -- Nor does refusal 2, if every disk that is put in is one that its store holds.
-    pub new-unbroken : Each PutsWhole es → Each (λ (a : Answer). a ≡ denied BadStore → ⊥) (run called es (newHost t b x) .answers)
+    pub new-never-2 : Each PutsUnbroken es → Each (λ (a : Answer). a ≡ denied BadStore → ⊥) (run called es (newHost t b x) .answers)
     unfolding newFloppy insideOf
-    new-unbroken q = calls-unbroken es (newHost t b x) new-sound q tt
+    new-never-2 q = calls-never-2 es (newHost t b x) new-sound q tt
 
 -- ---- lost bytes
 

@@ -36,7 +36,7 @@ use Rattle.codes.specs.Second.{u, headOf}
 use Rattle.commands.specs.Commands.{byte, idOf, whenReady, does, puts, missing, senseIf, ready, seekIf, readReply, servedAs, readData, startAt, writeData, writeReply, saveAt, written, idGiven, readId, formatOf, formatTrack, obeyed}
 use Rattle.commands.specs.Lent.{dataWith, transferWith}
 use Rattle.registers.specs.Possible.{AllFair, Short}
-use Rattle.saves.specs.Stages.{Whole}
+use Rattle.saves.specs.Stages.{Unbroken}
 
 -- ---- refusals
 
@@ -60,15 +60,15 @@ Clean Bad (Holds (refused why)) = MayRefuse Bad why
 Clean Bad (Holds (good d)) = Unit {0}
 
 -- what is in the drive is a store that breaks the layout
-abbrev pub Broken : Slot → Type 0
-Broken slot = Whole slot → ⊥
+abbrev pub Breaks : Slot → Type 0
+Breaks slot = Unbroken slot → ⊥
 
-pub store-clean : (f : Bool) (t b : List ℕ) → let slot : Slot = slotIf f (diskOf t b) in Clean (Broken slot) slot
+pub store-clean : (f : Bool) (t b : List ℕ) → let slot : Slot = slotIf f (diskOf t b) in Clean (Breaks slot) slot
 store-clean false t b = tt
 store-clean true t b = go (store.wellLaid t (roomOf b)) refl
   where
     Fine : Result Disk → Type 0
-    Fine y = Clean (Broken (Holds y)) (Holds y)
+    Fine y = Clean (Breaks (Holds y)) (Holds y)
 
     go : (v : Bool) → store.wellLaid t (roomOf b) ≡ v → Fine (diskOf t b)
     go true e = subst Fine (sym (disk-good t b e)) tt

@@ -37,11 +37,11 @@ use Rattle.sending.proofs.Sends.{all-first, all-length, sent-right, sent-data, 
 use Rattle.sending.proofs.Seen.{write-seen, disk-told}
 use Rattle.floppy.specs.Calls.{wroteAs}
 use Rattle.saves.specs.Events.{Question, motorOn?, whichTrack?, diskIn?, Event, poll, read, send, ask, switch, swap, widen, Answer, showed, gave, took, stood, denied, Next}
-use Rattle.saves.specs.Stages.{Stage, sentOn, answerTo, acted, Whole, PutsWhole}
+use Rattle.saves.specs.Stages.{Stage, sentOn, answerTo, acted, Unbroken, PutsUnbroken}
 use Rattle.saves.specs.Words.{inDrive}
-use Rattle.saves.proofs.Wholes.{acted-whole}
+use Rattle.saves.proofs.Unbrokens.{acted-unbroken}
 use Rattle.runs.specs.Hosts.{Host, withFloppy, withStore, withMore, byteSaid, flagSaid, doneSaid, ifSwapped, afterWrote, askedIn, called, seen, lent, stageOf, Sound, Agrees}
-use Rattle.runs.proofs.Effects.{MayRefuse, Clean, Broken, store-clean, Fits, Proper, obeyed-proper, Ends, written-ends, transfer-kept, room-kept}
+use Rattle.runs.proofs.Effects.{MayRefuse, Clean, Breaks, store-clean, Fits, Proper, obeyed-proper, Ends, written-ends, transfer-kept, room-kept}
 use mathlib.Core.Option.{Option, none, some}
 use Rattle.registers.specs.Possible.{Small, Lawful, Short}
 
@@ -61,7 +61,7 @@ module _ (r : Regs) (b : ℕ) (h t d x : List ℕ) (ok : impossibleIn x r ≡ fa
   Room = transferRoom x
 
   abbrev Bad : Type 0
-  Bad = Broken (slotOf r t d)
+  Bad = Breaks (slotOf r t d)
 
   w : Lawful r Room
   w = so-lawful x r nine seven small ok
@@ -260,7 +260,7 @@ module _ (k : Host) (s : Sound k) where
 
   -- what it may be refused with
   abbrev May : Refusal → Type 0
-  May = MayRefuse (Broken (slotOf R (k .table) (k .bytes)))
+  May = MayRefuse (Breaks (slotOf R (k .table) (k .bytes)))
 
   abbrev LeftAs : Result Sent → Left
   LeftAs y = leftOf y R H (k .table) (k .bytes) (k .transfer)
@@ -370,10 +370,10 @@ module _ (k : Host) (s : Sound k) where
   pub tame : (e : Event) → called e k .answer ≡ denied BadController → ⊥
   tame e q = called-refused e BadController q
 
-  pub unbroken : Whole (inDrive (seen k)) → (e : Event) → called e k .answer ≡ denied BadStore → ⊥
+  pub never-2 : Unbroken (inDrive (seen k)) → (e : Event) → called e k .answer ≡ denied BadStore → ⊥
   unfolding insideOf
-  unbroken h e q = called-refused e BadStore q h
+  never-2 h e q = called-refused e BadStore q h
 
   -- so is none there then
-  pub call-whole : (e : Event) → PutsWhole e → Whole (inDrive (seen k)) → Whole (inDrive (seen (called e k .then)))
-  call-whole e q h = subst (λ (y : Next Answer Stage). Whole (inDrive (y .then .world))) (agrees e .0) (acted-whole e (stageOf k) q h)
+  pub call-unbroken : (e : Event) → PutsUnbroken e → Unbroken (inDrive (seen k)) → Unbroken (inDrive (seen (called e k .then)))
+  call-unbroken e q h = subst (λ (y : Next Answer Stage). Unbroken (inDrive (y .then .world))) (agrees e .0) (acted-unbroken e (stageOf k) q h)

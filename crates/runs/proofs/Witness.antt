@@ -16,7 +16,7 @@ use Rattle.store.specs.Fresh.{blanks, formatted, freshFrom, fresh}
 use Rattle.registers.specs.Boxes.{Holds, newWorld}
 use Rattle.registers.specs.Ports.{changeDisk}
 use Rattle.saves.specs.Events.{swap, Answer, Run, run, Each}
-use Rattle.saves.specs.Stages.{Stage, acted, Whole, PutsWhole}
+use Rattle.saves.specs.Stages.{Stage, acted, Unbroken, PutsUnbroken}
 use Rattle.runs.specs.Hosts.{Host, called, seen, stageOf, newHost, storeOf, Sound}
 use Rattle.runs.proofs.Any.{calls-sound, new-sound, new-run}
 use Rattle.runs.proofs.Effects.{laid-kept}
@@ -71,9 +71,9 @@ pub host-ready : Ready (seen host) fresh
 host-ready = subst (λ (g : Stage). Ready (g .world) fresh) host-stage start-ready
 
 -- the disk that is put in is one that its store holds: refusal 2 never comes
-pub host-whole : Each PutsWhole (swap true freshTable freshBytes ∷ [])
-unfolding Each PutsWhole
-host-whole = (subst (λ (y : Result Disk). Whole (Holds y)) (sym fresh-laid) tt, tt)
+pub host-unbroken : Each PutsUnbroken (swap true freshTable freshBytes ∷ [])
+unfolding Each PutsUnbroken
+host-unbroken = (subst (λ (y : Result Disk). Unbroken (Holds y)) (sym fresh-laid) tt, tt)
 
 -- where the calls stand
 abbrev E′ : Host

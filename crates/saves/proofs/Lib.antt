@@ -4,5 +4,5 @@ pub mod Places
 pub mod Feeding
 pub mod Demand
 pub mod ReadBack
-pub mod Wholes
+pub mod Unbrokens
 pub mod Witness

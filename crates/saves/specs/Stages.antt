@@ -56,17 +56,17 @@ acted (swap present t b) g =
 acted (widen y) g = record { answer = took; then = record { setting = widened y (g .setting); world = g .world } }
 
 -- no store that breaks the layout is in the drive
-abbrev pub Whole : Slot → Type 0
-Whole Empty = Unit {0}
-Whole (Holds (refused why)) = ⊥
-Whole (Holds (good d)) = Unit {0}
+abbrev pub Unbroken : Slot → Type 0
+Unbroken Empty = Unit {0}
+Unbroken (Holds (refused why)) = ⊥
+Unbroken (Holds (good d)) = Unit {0}
 
 -- a disk change puts in none, or one that its store holds; no other call puts one in
-unfoldable pub PutsWhole : Event → Type 0
-PutsWhole poll = Unit {0}
-PutsWhole read = Unit {0}
-PutsWhole (send b) = Unit {0}
-PutsWhole (ask q) = Unit {0}
-PutsWhole (switch on) = Unit {0}
-PutsWhole (swap present t b) = Whole (slotIf present (diskOf t b))
-PutsWhole (widen y) = Unit {0}
+unfoldable pub PutsUnbroken : Event → Type 0
+PutsUnbroken poll = Unit {0}
+PutsUnbroken read = Unit {0}
+PutsUnbroken (send b) = Unit {0}
+PutsUnbroken (ask q) = Unit {0}
+PutsUnbroken (switch on) = Unit {0}
+PutsUnbroken (swap present t b) = Unbroken (slotIf present (diskOf t b))
+PutsUnbroken (widen y) = Unit {0}

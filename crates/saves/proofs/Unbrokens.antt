@@ -9,7 +9,7 @@ use Rattle.registers.specs.Boxes.{Slot, Inside, Taking, Add, Hold, Change, Clea
 use Rattle.registers.specs.Ports.{afterStatus, afterRead, setMotor, changeDisk}
 use Rattle.sending.specs.Machine.{sent, done, writePort}
 use Rattle.saves.specs.Events.{Event, poll, read, send, ask, switch, swap, widen, run, Each}
-use Rattle.saves.specs.Stages.{Stage, sentOn, acted, Whole, PutsWhole}
+use Rattle.saves.specs.Stages.{Stage, sentOn, acted, Unbroken, PutsUnbroken}
 use Rattle.saves.specs.Words.{inDrive}
 
 abbrev slotIn : Inside → Slot
@@ -36,33 +36,33 @@ all-slot [] i = refl
 all-slot (x ∷ xs) i = all-slot xs (changed x i) ∙ changed-slot x i
 
 -- what it puts in is a disk
-put-whole : (p : Option Disk) (i : Inside) → Whole (slotIn i) → Whole (slotIn (putIn p i))
+put-unbroken : (p : Option Disk) (i : Inside) → Unbroken (slotIn i) → Unbroken (slotIn (putIn p i))
 unfolding putIn
-put-whole none i h = h
-put-whole (some d) i h = tt
+put-unbroken none i h = h
+put-unbroken (some d) i h = tt
 
-sent-whole : (g : Stage) (y : Result Sent) → Whole (inDrive (g .world)) → Whole (inDrive (sentOn g (after y (λ x. good (done (g .world) x))) .then .world))
+sent-unbroken : (g : Stage) (y : Result Sent) → Unbroken (inDrive (g .world)) → Unbroken (inDrive (sentOn g (after y (λ x. good (done (g .world) x))) .then .world))
 unfolding done
-sent-whole g (refused why) h = h
-sent-whole g (good y) h =
+sent-unbroken g (refused why) h = h
+sent-unbroken g (good y) h =
     let i : Inside = taken (y .taking) (g .world .inside) in
-    put-whole (y .effect .put) (allChanged (y .effect .changes) i)
-    (subst Whole (sym (all-slot (y .effect .changes) i ∙ taken-slot (y .taking) (g .world .inside))) h)
+    put-unbroken (y .effect .put) (allChanged (y .effect .changes) i)
+    (subst Unbroken (sym (all-slot (y .effect .changes) i ∙ taken-slot (y .taking) (g .world .inside))) h)
 
 -- ---- any calls
 
-pub acted-whole : (e : Event) (g : Stage) → PutsWhole e → Whole (inDrive (g .world)) → Whole (inDrive (acted e g .then .world))
-unfolding acted PutsWhole afterStatus afterRead setMotor changeDisk writePort
-acted-whole poll g q h = h
-acted-whole read g q h = h
-acted-whole (send b) g q h = sent-whole g (sent (g .setting) (g .world .inside) b) h
-acted-whole (ask z) g q h = h
-acted-whole (switch on) g q h = h
-acted-whole (swap present t b) g q h = q
-acted-whole (widen y) g q h = h
+pub acted-unbroken : (e : Event) (g : Stage) → PutsUnbroken e → Unbroken (inDrive (g .world)) → Unbroken (inDrive (acted e g .then .world))
+unfolding acted PutsUnbroken afterStatus afterRead setMotor changeDisk writePort
+acted-unbroken poll g q h = h
+acted-unbroken read g q h = h
+acted-unbroken (send b) g q h = sent-unbroken g (sent (g .setting) (g .world .inside) b) h
+acted-unbroken (ask z) g q h = h
+acted-unbroken (switch on) g q h = h
+acted-unbroken (swap present t b) g q h = q
+acted-unbroken (widen y) g q h = h
 
 -- They leave none in the drive.
-pub run-whole : (es : List Event) (g : Stage) → Each PutsWhole es → Whole (inDrive (g .world)) → Whole (inDrive (run acted es g .end .world))
+pub run-unbroken : (es : List Event) (g : Stage) → Each PutsUnbroken es → Unbroken (inDrive (g .world)) → Unbroken (inDrive (run acted es g .end .world))
 unfolding run Each
-run-whole [] g q h = h
-run-whole (e ∷ es) g q h = run-whole es (acted e g .then) (q .1) (acted-whole e g (q .0) h)
+run-unbroken [] g q h = h
+run-unbroken (e ∷ es) g q h = run-unbroken es (acted e g .then) (q .1) (acted-unbroken e g (q .0) h)
