@@ -14,7 +14,7 @@ use Rattle.fields.specs.declared.refusal.Refusal.{Refusal}
 use Rattle.fields.specs.declared.refusal.Refusal.the-variants.{BadController, BadStore}
 use Rattle.fields.proofs.Sizes.{size-most}
 use Rattle.fields.proofs.Tests.{never}
-use Rattle.store.specs.Store.{roomOf, transferRoom, diskOf}
+use Rattle.store.specs.Store.{roomOf, transferRoom}
 use Rattle.store.specs.declared.answer.Done.{Done}
 use Rattle.store.specs.declared.answer.Done.the-variants as finished
 use Rattle.store.proofs.Checks.{transfer-in}
@@ -22,7 +22,7 @@ use Rattle.codes.specs.declared.command.Command.{Command}
 use Rattle.codes.specs.Table.{commandOf, bytesFor}
 use Rattle.registers.specs.declared.regs.Regs.{Regs}
 use Rattle.registers.specs.declared.regs.Byte.the-variants as byte
-use Rattle.registers.specs.Boxes.{Setting, Inside, World, Add, Hold, Change, Clear, Finish, Effect, Sent, named, Holds, allChanged, taken, putIn}
+use Rattle.registers.specs.Boxes.{Setting, Inside, World, Add, Hold, Change, Clear, Finish, Effect, Sent, named, Holds}
 use Rattle.registers.specs.View.{slotIf, settingOf, slotOf, drivesOf, writingOf, insideOf, frontOf, impossibleIn}
 use Rattle.registers.specs.Settle.{regsTaken, heldTaken, regsChanged, regsAll, regsResponded, regsOf}
 use Rattle.registers.specs.Calls.{statusRead, dataRead, motorSet, diskSet}
@@ -42,7 +42,6 @@ use Rattle.saves.specs.Words.{inDrive}
 use Rattle.saves.proofs.Unbrokens.{acted-unbroken}
 use Rattle.runs.specs.Hosts.{Host, withFloppy, withStore, withMore, byteSaid, flagSaid, doneSaid, ifSwapped, afterWrote, askedIn, called, seen, lent, stageOf, Sound, Agrees}
 use Rattle.runs.proofs.Effects.{MayRefuse, Clean, Breaks, store-clean, Fits, Proper, obeyed-proper, Ends, written-ends, transfer-kept, room-kept}
-use mathlib.Core.Option.{Option, none, some}
 use Rattle.registers.specs.Possible.{Small, Lawful, Short}
 
 -- what is in a drive is the disk that the store holds

@@ -6,7 +6,7 @@ use mathlib.Core.Bool.{false}
 use mathlib.Core.List.{List, _++_}
 use lib.ListN.{length}
 use Rattle.fields.specs.Capacities.{mostHeld}
-use Rattle.fields.specs.Refusals.{Result, good}
+use Rattle.fields.specs.Refusals.{Result}
 use Rattle.fields.specs.Model.{Disk}
 use Rattle.store.specs.Store.{diskOf}
 use Rattle.store.specs.declared.answer.Done.{Done}

@@ -1,6 +1,5 @@
 -- No store that breaks the layout comes into the drive by calls, if no disk change puts one in.
 use mathlib.Core.Path.{_≡_, refl, sym, subst, _∙_}
-use Prim.Native.Nat.{ℕ}
 use mathlib.Core.List.{List, [], _∷_}
 use mathlib.Core.Option.{Option, none, some}
 use Rattle.fields.specs.Refusals.{Result, refused, good, after}
