@@ -1,11 +1,12 @@
--- The refusal numbers of document 01, and an answer that may be a refusal.
+-- The refusal numbers of documents 01 and 02, and an answer that may be a refusal.
 use Prim.Native.Nat.{ℕ}
 use mathlib.Core.Bool.{Bool, true, false}
 use Rattle.fields.specs.declared.refusal.Refusal.{Refusal}
 use Rattle.fields.specs.declared.refusal.Refusal.the-variants.{BadController, BadStore, ShortImage, NotAnImage, NotATrack, TooManyTracks}
 use Rattle.fields.specs.declared.refusal.Refusal.the-variants.{TooManySectors, NoRoom, NoTransferRoom, LongInput}
+use Rattle.fields.specs.declared.refusal.Refusal.the-variants.{BadSheet, ShortBuffer}
 
--- the table "Refusal numbers" of 01
+-- the table "Refusal numbers" of 01; 11 and 13 of request 2026-01
 abbrev pub numberOf : Refusal → ℕ
 numberOf BadController = 1
 numberOf BadStore = 2
@@ -17,6 +18,8 @@ numberOf TooManySectors = 7
 numberOf NoRoom = 8
 numberOf NoTransferRoom = 9
 numberOf LongInput = 10
+numberOf BadSheet = 11
+numberOf ShortBuffer = 13
 
 -- what is read, or why it is refused
 pub data Result (A : Type 0) : Type 0 where

@@ -1,4 +1,4 @@
-// Why a call refuses: the table of document 01, in its order. `specs/Refusals.antt` gives each its number.
+// Why a call refuses: the table of document 01, in its order, and behind it what the requests of document 02 add. `specs/Refusals.antt` gives each its number.
 ghost use mathlib.Core.Path.{_≡_};
 ghost use Rattle.fields.specs.Refusals.{numberOf};
 
@@ -13,10 +13,12 @@ pub enum Refusal {
     NoRoom,
     NoTransferRoom,
     LongInput,
+    BadSheet,
+    ShortBuffer,
 }
 
 impl Refusal {
-    // The number by which document 01 knows a refusal.
+    // The number by which the documents know a refusal.
     pub fn number(self) -> u8
         ensures { λ r. ⌜ r ≡ numberOf self ⌝ }
     {
@@ -31,6 +33,8 @@ impl Refusal {
             Refusal::NoRoom => 8,
             Refusal::NoTransferRoom => 9,
             Refusal::LongInput => 10,
+            Refusal::BadSheet => 11,
+            Refusal::ShortBuffer => 13,
         }
     }
 }

@@ -18,6 +18,7 @@ use Rattle.fields.specs.declared.id.SectorId.{SectorId}
 use Rattle.fields.specs.declared.refusal.Refusal.{Refusal}
 use Rattle.fields.specs.declared.refusal.Refusal.the-variants.{BadController, BadStore, ShortImage, NotAnImage, NotATrack}
 use Rattle.fields.specs.declared.refusal.Refusal.the-variants.{TooManyTracks, TooManySectors, NoRoom, NoTransferRoom, LongInput}
+use Rattle.fields.specs.declared.refusal.Refusal.the-variants.{BadSheet, ShortBuffer}
 use Rattle.fields.proofs.Tests.{never}
 use Rattle.store.specs.Find.{Found, nothing, found}
 use Rattle.store.specs.Search.{sectorAt, sectorByIndex, readAt}
@@ -52,6 +53,8 @@ MayRefuse Bad TooManySectors = Unit {0}
 MayRefuse Bad NoRoom = Unit {0}
 MayRefuse Bad NoTransferRoom = Unit {0}
 MayRefuse Bad LongInput = ⊥
+MayRefuse Bad BadSheet = ⊥
+MayRefuse Bad ShortBuffer = ⊥
 
 -- what is in a drive: a store that is refused is refused for itself
 abbrev pub Clean : Type 0 → Slot → Type 0
