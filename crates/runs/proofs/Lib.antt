@@ -3,5 +3,6 @@ pub mod Effects
 pub mod Follows
 pub mod Steps
 pub mod Any
+pub mod Together
 pub mod Gets
 pub mod Witness

@@ -274,7 +274,7 @@ module _ (k : Host) (s : Sound k) where
   }
 
   module _ (b : ℕ) where
-    write-as : (y : Result Sent) → sent (lent k) I b ≡ y → dataWrite R b H (k .table) (k .bytes) (k .transfer) ≡ LeftAs y
+    pub write-as : (y : Result Sent) → sent (lent k) I b ≡ y → dataWrite R b H (k .table) (k .bytes) (k .transfer) ≡ LeftAs y
     unfolding dataWrite
     write-as y e = ap LeftAs (sym (sent-right R b H (k .table) (k .bytes) (k .transfer) (s .possible) (s .held)) ∙ e)
 
