@@ -18,11 +18,11 @@ use Rattle.layout.proofs.Images.{formed-long}
 
 -- ---- one by one
 
-flag-back : (f : Bool) → flagAt (flagByte f) ≡ f
+pub flag-back : (f : Bool) → flagAt (flagByte f) ≡ f
 flag-back true = refl
 flag-back false = refl
 
-seek-back : (s : Seek) → seekAt (seekByte s) ≡ s
+pub seek-back : (s : Seek) → seekAt (seekByte s) ≡ s
 seek-back Idle = refl
 seek-back Running = refl
 seek-back Done = refl
@@ -66,12 +66,12 @@ held-back r held = refl
 
 -- ---- bytes, read and written
 
-flag-kept : (b : ℕ) → b ≤ 1 → flagByte (flagAt b) ≡ b
+pub flag-kept : (b : ℕ) → b ≤ 1 → flagByte (flagAt b) ≡ b
 flag-kept zero h = refl
 flag-kept (suc zero) h = refl
 flag-kept (suc (suc b)) h = absurd (omega (arith, h))
 
-seek-kept : (b : ℕ) → b ≤ 2 → seekByte (seekAt b) ≡ b
+pub seek-kept : (b : ℕ) → b ≤ 2 → seekByte (seekAt b) ≡ b
 seek-kept zero h = refl
 seek-kept (suc zero) h = refl
 seek-kept (suc (suc zero)) h = refl

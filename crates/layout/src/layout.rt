@@ -19,19 +19,19 @@ pub const NUMBERS: usize = 42;
 
 pub const LENGTH: usize = NUMBERS + HELD;
 
-fn flag_at(b: u8) -> bool
+pub fn flag_at(b: u8) -> bool
     ensures { λ r. ⌜ r ≡ flagAt b ⌝ }
 {
     b != 0
 }
 
-fn flag_byte(f: bool) -> u8
+pub fn flag_byte(f: bool) -> u8
     ensures { λ r. ⌜ r ≡ flagByte f ⌝ }
 {
     if f { 1 } else { 0 }
 }
 
-fn seek_at(b: u8) -> Seek
+pub fn seek_at(b: u8) -> Seek
     ensures { λ r. ⌜ r ≡ seekAt b ⌝ }
 {
     if b == 1 {
@@ -43,7 +43,7 @@ fn seek_at(b: u8) -> Seek
     Seek::Idle
 }
 
-fn seek_byte(s: Seek) -> u8
+pub fn seek_byte(s: Seek) -> u8
     ensures { λ r. ⌜ r ≡ seekByte s ⌝ }
 {
     match s {

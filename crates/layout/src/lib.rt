@@ -3,7 +3,11 @@ mod layout;
 
 pub use layout::LENGTH;
 pub use layout::NUMBERS;
+pub use layout::flag_at;
+pub use layout::flag_byte;
 pub use layout::formed;
+pub use layout::seek_at;
+pub use layout::seek_byte;
 
 // For the crate above only: they have a `requires`.
 pub use layout::decode;

@@ -1,0 +1,103 @@
+-- What the calls that write and read a sheet answer and leave.
+use Prim.Native.Nat.{ℕ, _+_, _-_}
+use mathlib.Core.Bool.{Bool, true, false}
+use mathlib.Core.List.{List}
+use mathlib.Core.Option.{Option, none, some}
+use lib.ListN.{length, replicate}
+use lib.Dec.{leb}
+use Rattle.buffer.specs.Over.{over}
+use Rattle.fields.specs.Capacities.{mostTransfer, mostHeld}
+use Rattle.fields.specs.Refusals.{Result, refused, good, need, after}
+use Rattle.fields.specs.declared.refusal.Refusal.the-variants.{BadController, NoTransferRoom, ShortBuffer}
+use Rattle.store.specs.Store.{transferRoom}
+use Rattle.store.specs.declared.answer.Done.{Done}
+use Rattle.store.specs.declared.answer.Done.the-variants as done
+use Rattle.registers.specs.declared.regs.Regs.{Regs}
+use Rattle.registers.specs.declared.regs.Pending.{Pending}
+use Rattle.registers.specs.declared.regs.Switched.{Switched}
+use Rattle.registers.specs.Boxes.{Empty, Writing, World}
+use Rattle.registers.specs.View.{insideOf, frontOf}
+use Rattle.sending.specs.Calls.{impossibleWith}
+use Rattle.sheet.specs.declared.writing.Paper.{Paper}
+use Rattle.sheet.specs.declared.writing.Paper.the-variants as paper
+use Rattle.sheet.specs.Sheets.{sheetOf, worldIn}
+
+-- the longest sheet: 31 bytes of numbers and lengths, a command of 8 bytes, a reply of 7, as much data as can be lent, and a write that lacks one byte
+abbrev pub longestSheet : ℕ
+longestSheet = 31 + 8 + 7 + mostTransfer + 5 + (mostHeld - 1)
+
+-- ---- Writing
+
+-- the boxes that a controller shows, all but what is in the drive
+abbrev pub boxesSeen : Regs → List ℕ → List ℕ → World
+boxesSeen r h x = record { inside = insideOf r h Empty; front = frontOf r x }
+
+-- the answer, and the buffer that the sheet is written to
+pub data Penned : Type 0 where
+  penned : Paper → List ℕ → Penned
+
+-- the sheet at the buffer's start, and how long it is; 13 where it does not fit
+abbrev pub pennedIf : Bool → List ℕ → List ℕ → Penned
+pennedIf true sheet s = penned (paper.Of (length sheet)) (over s 0 sheet)
+pennedIf false sheet s = penned (paper.Refused ShortBuffer) s
+
+-- 1 first
+abbrev pub unlessWrong : Bool → List ℕ → List ℕ → Penned
+unlessWrong true sheet s = penned (paper.Refused BadController) s
+unlessWrong false sheet s = pennedIf (leb (length sheet) (length s)) sheet s
+
+unfoldable pub sheetWritten : Regs → List ℕ → List ℕ → List ℕ → Penned
+sheetWritten r h x s = unlessWrong (impossibleWith h x r) (sheetOf (boxesSeen r h x)) s
+
+-- ---- Reading
+
+-- bytes from the start of so many zeros
+abbrev pub onZeros : ℕ → List ℕ → List ℕ
+onZeros n x = over (replicate n 0) 0 x
+
+-- a write in progress, and the bytes that are held
+abbrev pub pendingFor : Option Writing → Pending
+pendingFor none = record { on = false; c1 = 0; id = record { c = 0; h = 0; r = 0; n = 0 }; taken = 0 }
+pendingFor (some w) = record { on = true; c1 = w .c1; id = w .id; taken = length (w .held) }
+
+abbrev pub heldFor : Option Writing → List ℕ
+heldFor none = replicate mostHeld 0
+heldFor (some w) = onZeros mostHeld (w .held)
+
+-- the controller that has these boxes, with no disk: every place is 0, and so is every byte behind what counts
+unfoldable pub regsFor : World → Regs
+regsFor w = record {
+  command = onZeros 9 (w .inside .command);
+  count = length (w .inside .command);
+  reply = onZeros 7 (w .front .reply);
+  place = 0;
+  fill = length (w .front .reply);
+  from = 0;
+  until = length (w .front .unread);
+  lost = w .front .lost;
+  motor = w .inside .motor;
+  index = w .inside .index;
+  write = pendingFor (w .inside .write);
+  drive = record { cylinder = w .inside .drives .first .cylinder; seek = w .front .seek; disk = false };
+}
+
+-- the boxes that a sheet holds; 11, then 9 for unread data over the transfer room
+unfoldable pub takenFrom : List ℕ → List ℕ → Result World
+takenFrom s x = after (worldIn s) (λ w. need (leb (length (w .front .unread)) (transferRoom x)) NoTransferRoom (good w))
+
+-- that it was read, or the refusal
+abbrev pub judged : Result World → Done
+judged (refused why) = done.Refused why
+judged (good w) = done.Good
+
+-- the answer with the registers, the held bytes and the transfer buffer
+pub data Resuming : Type 0 where
+  resuming : Switched → List ℕ → List ℕ → Resuming
+
+-- the controller of these boxes, with its unread data at the buffer's start; a refusal leaves all as it came
+abbrev pub resumedAs : Result World → Regs → List ℕ → List ℕ → Resuming
+resumedAs (refused why) r h x = resuming (record { done = done.Refused why; regs = r }) h x
+resumedAs (good w) r h x = resuming (record { done = done.Good; regs = regsFor w }) (heldFor (w .inside .write)) (over x 0 (w .front .unread))
+
+unfoldable pub sheetRead : Regs → List ℕ → List ℕ → List ℕ → Resuming
+sheetRead r h s x = resumedAs (takenFrom s x) r h x

@@ -1,0 +1,382 @@
+// Reads a sheet: where its boxes stand, whether it is one, and the controller that it gives.
+use codes::bytes_for;
+use codes::command_of;
+use fields::HELD;
+use fields::Refusal;
+use fields::SectorId;
+use fields::byte;
+use floppy::Changed;
+use floppy::Floppy;
+use layout::flag_at;
+use layout::seek_at;
+use registers::Drive;
+use registers::Pending;
+use registers::Regs;
+use registers::Switched;
+use registers::fitted;
+use store::Done;
+use store::transfer_room;
+ghost use mathlib.Core.Path.{_≡_};
+ghost use mathlib.Core.Bool.{true, false, _||_};
+ghost use Prim.Native.Nat.{_+_, _≤_, _<_, _^_};
+ghost use lib.ListN.{length};
+ghost use lib.Dec.{eqb, leb};
+ghost use Rattle.fields.specs.Bytes.{byteAt};
+ghost use Rattle.fields.specs.Capacities.{mostTransfer, mostHeld};
+ghost use Rattle.codes.specs.Table.{commandOf, bytesFor};
+ghost use Rattle.layout.specs.Layout.{seekAt};
+ghost use Rattle.sheet.specs.Sheets.{highAt, boxAt, behind, placesOf, boxesAt, framed, oneTo, inRange, writeIf, worldFrom, wrongWriting, wrongBoxes};
+ghost use Rattle.sheet.specs.Calls.{onZeros, pendingFor, heldFor, regsFor, takenFrom, judged, resuming, sheetRead};
+
+// Where the length of each box stands, and where the last box ends.
+pub struct Places {
+    pub motor: usize,
+    pub cylinder: usize,
+    pub seek: usize,
+    pub index: usize,
+    pub command: usize,
+    pub reply: usize,
+    pub unread: usize,
+    pub lost: usize,
+    pub write: usize,
+    pub end: usize,
+}
+
+// ---- the form
+
+// The number in two bytes, high byte first, and in four; a byte past the end counts as 0.
+fn high_two(s: &[u8], at: usize) -> usize
+    requires { ⌜ at + 1 < 2 ^ 64 ⌝ }
+    ensures { λ r. ⌜ (r ≡ highAt 2 (now (s .entry)) at) × (r < 65536) ⌝ }
+{
+    256 * byte(s, at) + byte(s, at + 1)
+}
+
+fn high_four(s: &[u8], at: usize) -> usize
+    requires { ⌜ at + 3 < 2 ^ 64 ⌝ }
+    ensures { λ r. ⌜ (r ≡ highAt 4 (now (s .entry)) at) × (r < 4294967296) ⌝ }
+{
+    65536 * high_two(s, at) + high_two(s, at + 2)
+}
+
+// The place behind a box whose length takes two bytes, and four.
+fn behind_two(s: &[u8], at: usize) -> usize
+    requires { ⌜ at < 2 ^ 40 ⌝ }
+    ensures { λ r. ⌜ (r ≡ behind 2 (now (s .entry)) at) × (r < at + 65538) ⌝ }
+{
+    at + 2 + high_two(s, at)
+}
+
+fn behind_four(s: &[u8], at: usize) -> usize
+    requires { ⌜ at < 2 ^ 40 ⌝ }
+    ensures { λ r. ⌜ (r ≡ behind 4 (now (s .entry)) at) × (r < at + 4294967300) ⌝ }
+{
+    at + 4 + high_four(s, at)
+}
+
+// Where the boxes stand, by the lengths that the sheet tells.
+fn locate(s: &[u8]) -> Places
+    ensures { λ r. ⌜ r ≡ placesOf (now (s .entry)) ⌝ }
+{
+    let motor = 5;
+    let cylinder = behind_two(s, motor);
+    let seek = behind_two(s, cylinder);
+    let index = behind_two(s, seek);
+    let command = behind_two(s, index);
+    let reply = behind_two(s, command);
+    let unread = behind_two(s, reply);
+    let lost = behind_four(s, unread);
+    let write = behind_two(s, lost);
+    let end = behind_two(s, write);
+    Places {
+        motor,
+        cylinder,
+        seek,
+        index,
+        command,
+        reply,
+        unread,
+        lost,
+        write,
+        end,
+    }
+}
+
+// The bytes of a box whose length takes two bytes, and four; fewer where the sheet ends first.
+fn box_two<'a>(s: &'a [u8], at: usize) -> &'a [u8]
+    ensures { λ r. ⌜ now r ≡ boxAt 2 (now (s .entry)) at ⌝ }
+{
+    let rest = buffer::tail(s, at);
+    buffer::part(rest, 2, high_two(rest, 0))
+}
+
+fn box_four<'a>(s: &'a [u8], at: usize) -> &'a [u8]
+    ensures { λ r. ⌜ now r ≡ boxAt 4 (now (s .entry)) at ⌝ }
+{
+    let rest = buffer::tail(s, at);
+    buffer::part(rest, 4, high_four(rest, 0))
+}
+
+// Whether version and lengths are those of a sheet whose last box ends at a place.
+fn is_framed(s: &[u8], end: usize) -> bool
+    requires { ⌜ end ≡ placesOf (now s) .end ⌝ }
+    ensures { λ r. ⌜ r ≡ framed (now (s .entry)) ⌝ }
+{
+    let version = byte(s, 0) == 1;
+    let rest = 5 + high_four(s, 1) == s.len();
+    let last = end == s.len();
+    version & (rest & last)
+}
+
+// ---- the boxes
+
+// The byte that a box begins with, 0 where it is empty.
+fn first(x: &[u8]) -> u8
+    ensures { λ r. ⌜ r ≡ byteAt (now (x .entry)) 0 ⌝ }
+{
+    byte(x, 0) as u8
+}
+
+// Whether a box is a number of one byte, up to a greatest.
+fn one_to(x: &[u8], most: u8) -> bool
+    ensures { λ r. ⌜ r ≡ oneTo most (now (x .entry)) ⌝ }
+{
+    if x.len() != 1 {
+        return false;
+    }
+    x[0] <= most
+}
+
+// Whether the box of a write is empty, or has c1 and ID.
+fn is_write(x: &[u8]) -> bool
+    ensures { λ r. ⌜ r ≡ eqb (length (now (x .entry))) 0 || leb 5 (length (now (x .entry))) ⌝ }
+{
+    if x.len() == 0 {
+        return true;
+    }
+    5 <= x.len()
+}
+
+// Whether every number is as long as it must be, and motor and seek state are in their range.
+fn in_range(s: &[u8], p: Places) -> bool
+    ensures { λ r. ⌜ r ≡ inRange (boxesAt (now (s .entry)) p) ⌝ }
+{
+    let motor = one_to(box_two(s, p.motor), 1);
+    let cylinder = box_two(s, p.cylinder).len() == 1;
+    let seek = one_to(box_two(s, p.seek), 2);
+    let index = box_two(s, p.index).len() == 2;
+    let lost = box_two(s, p.lost).len() == 1;
+    let write = is_write(box_two(s, p.write));
+    motor & (cylinder & (seek & (index & (lost & write))))
+}
+
+// The ID in the box of a write.
+fn id_in(x: &[u8]) -> SectorId
+    requires { ⌜ 5 ≤ length (now x) ⌝ }
+    ensures { λ r. ⌜ r ≡ record { c = byteAt (now (x .entry)) 1; h = byteAt (now (x .entry)) 2; r = byteAt (now (x .entry)) 3; n = byteAt (now (x .entry)) 4 } ⌝ }
+{
+    SectorId {
+        c: x[1],
+        h: x[2],
+        r: x[3],
+        n: x[4],
+    }
+}
+
+// A write that no controller has: as long as its sector, or longer, or for a drive that is not fitted.
+fn wrong_write(x: &[u8]) -> bool
+    requires { ⌜ eqb (length (now x)) 0 || leb 5 (length (now x)) ≡ true ⌝ }
+    ensures { λ r. ⌜ r ≡ wrongWriting (writeIf (eqb (length (now (x .entry))) 0) (now (x .entry))) ⌝ }
+{
+    if x.len() == 0 {
+        return false;
+    }
+    let id = id_in(x);
+    if id.len() <= x.len() - 5 {
+        return true;
+    }
+    !fitted(x[0])
+}
+
+// A command that is as long as it has bytes, or longer. Where nothing was sent, no table is asked.
+fn wrong_command(x: &[u8]) -> bool
+    ensures { λ r. ⌜ r ≡ leb (bytesFor (commandOf (byteAt (now (x .entry)) 0))) (length (now (x .entry))) ⌝ }
+{
+    if x.len() == 0 {
+        return false;
+    }
+    bytes_for(command_of(x[0])) as usize <= x.len()
+}
+
+// Boxes that no controller has.
+fn wrong_boxes(s: &[u8], p: Places) -> bool
+    requires { ⌜ inRange (boxesAt (now s) p) ≡ true ⌝ }
+    ensures { λ r. ⌜ r ≡ wrongBoxes (worldFrom (boxesAt (now (s .entry)) p)) ⌝ }
+{
+    let reply = 7 < box_two(s, p.reply).len();
+    let command = wrong_command(box_two(s, p.command));
+    let lost = 2 < first(box_two(s, p.lost));
+    let write = wrong_write(box_two(s, p.write));
+    reply | (command | (lost | write))
+}
+
+// ---- the controller
+
+// The command and the reply, with zeros behind them.
+fn command_from(x: &[u8]) -> [u8; 9]
+    requires { ⌜ length (now x) ≤ 9 ⌝ }
+    ensures { λ r. ⌜ r ≡ onZeros 9 (now (x .entry)) ⌝ }
+{
+    let mut command = [0u8; 9];
+    buffer::copy_in(&mut command, 0, x);
+    command
+}
+
+fn reply_from(x: &[u8]) -> [u8; 7]
+    requires { ⌜ length (now x) ≤ 7 ⌝ }
+    ensures { λ r. ⌜ r ≡ onZeros 7 (now (x .entry)) ⌝ }
+{
+    let mut reply = [0u8; 7];
+    buffer::copy_in(&mut reply, 0, x);
+    reply
+}
+
+// The write in progress.
+fn pending_from(x: &[u8]) -> Pending
+    requires { ⌜ (eqb (length (now x)) 0 || leb 5 (length (now x)) ≡ true) × (length (now x) < 65536) ⌝ }
+    ensures { λ r. ⌜ r ≡ pendingFor (writeIf (eqb (length (now (x .entry))) 0) (now (x .entry))) ⌝ }
+{
+    if x.len() == 0 {
+        let id = SectorId {
+            c: 0,
+            h: 0,
+            r: 0,
+            n: 0,
+        };
+        return Pending {
+            on: false,
+            c1: 0,
+            id,
+            taken: 0,
+        };
+    }
+    let id = id_in(x);
+    Pending {
+        on: true,
+        c1: x[0],
+        id,
+        taken: (x.len() - 5) as u16,
+    }
+}
+
+// The bytes that it holds, with zeros behind them.
+fn lay_held(x: &[u8], held: &mut [u8])
+    requires { ⌜ (length (now held) ≡ mostHeld) × (length (now x) ≤ 5 + mostHeld) ⌝ }
+    ensures { λ _. ⌜ now (held .exit) ≡ heldFor (writeIf (eqb (length (now (x .entry))) 0) (now (x .entry))) ⌝ }
+{
+    buffer::fill(held, 0, HELD, 0);
+    buffer::copy_in(held, 0, buffer::tail(x, 5));
+}
+
+// The number in a box of one byte, and of two.
+fn number_in(s: &[u8], at: usize) -> u8
+    ensures { λ r. ⌜ r ≡ byteAt (boxAt 2 (now (s .entry)) at) 0 ⌝ }
+{
+    first(box_two(s, at))
+}
+
+fn index_in(s: &[u8], at: usize) -> u16
+    ensures { λ r. ⌜ r ≡ highAt 2 (boxAt 2 (now (s .entry)) at) 0 ⌝ }
+{
+    high_two(box_two(s, at), 0) as u16
+}
+
+// The drive, with no disk in it.
+fn drive_in(s: &[u8], p: Places) -> Drive
+    ensures { λ r. ⌜ r ≡ record { cylinder = byteAt (boxAt 2 (now (s .entry)) (p .cylinder)) 0; seek = seekAt (byteAt (boxAt 2 (now (s .entry)) (p .seek)) 0); disk = false } ⌝ }
+{
+    Drive {
+        cylinder: number_in(s, p.cylinder),
+        seek: seek_at(number_in(s, p.seek)),
+        disk: false,
+    }
+}
+
+// The registers of a sheet that is one, all places 0.
+fn regs_from(s: &[u8], p: Places) -> Regs
+    requires { ⌜ (inRange (boxesAt (now s) p) ≡ true) × (wrongBoxes (worldFrom (boxesAt (now s) p)) ≡ false) ⌝ }
+    requires { ⌜ length (boxAt 4 (now s) (p .unread)) ≤ mostTransfer ⌝ }
+    ensures { λ r. ⌜ r ≡ regsFor (worldFrom (boxesAt (now (s .entry)) p)) ⌝ }
+{
+    let command = box_two(s, p.command);
+    let reply = box_two(s, p.reply);
+    let unread = box_four(s, p.unread);
+    Regs {
+        command: command_from(command),
+        count: command.len() as u8,
+        reply: reply_from(reply),
+        place: 0,
+        fill: reply.len() as u8,
+        from: 0,
+        until: unread.len() as u32,
+        lost: number_in(s, p.lost),
+        motor: flag_at(number_in(s, p.motor)),
+        index: index_in(s, p.index),
+        write: pending_from(box_two(s, p.write)),
+        drive: drive_in(s, p),
+    }
+}
+
+// Whether these bytes are a sheet, and their unread data fit the transfer room.
+fn judge(s: &[u8], p: Places, transfer: &[u8]) -> Done
+    requires { ⌜ p ≡ placesOf (now s) ⌝ }
+    ensures { λ r. ⌜ r ≡ judged (takenFrom (now (s .entry)) (now (transfer .entry))) ⌝ }
+{
+    if !is_framed(s, p.end) {
+        return Done::Refused(Refusal::BadSheet);
+    }
+    if !in_range(s, p) {
+        return Done::Refused(Refusal::BadSheet);
+    }
+    if wrong_boxes(s, p) {
+        return Done::Refused(Refusal::BadSheet);
+    }
+    if transfer_room(transfer) < box_four(s, p.unread).len() {
+        return Done::Refused(Refusal::NoTransferRoom);
+    }
+    Done::Good
+}
+
+// Reads a sheet, which all of `sheet` is: the registers, with no disk; the held bytes, and unread data from the transfer buffer's start, where bytes
+// behind them stay. 11 for bytes that are no sheet, then 9 for unread data over the transfer room; both leave all as it came.
+pub fn read_parts(regs: Regs, held: &mut [u8], sheet: &[u8], transfer: &mut [u8]) -> Switched
+    requires { ⌜ length (now held) ≡ mostHeld ⌝ }
+    ensures { λ a. ⌜ resuming a (now (held .exit)) (now (transfer .exit))
+        ≡ sheetRead regs (now (held .entry)) (now (sheet .entry)) (now (transfer .entry)) ⌝ }
+{
+    let p = locate(sheet);
+    let done = judge(sheet, p, transfer);
+    match done {
+        Done::Refused(_) => Switched { done, regs },
+        Done::Good => {
+            lay_held(box_two(sheet, p.write), held);
+            buffer::copy_in(transfer, 0, box_four(sheet, p.unread));
+            let after = regs_from(sheet, p);
+            Switched { done, regs: after }
+        }
+    }
+}
+
+// The same for a whole controller, which comes back as it was where the sheet is refused.
+pub fn read(floppy: Floppy, sheet: &[u8], transfer: &mut [u8]) -> Changed
+    ensures { λ a. ⌜ resuming (record { done = a .done; regs = a .floppy .regs }) (a .floppy .held) (now (transfer .exit))
+        ≡ sheetRead (floppy .regs) (floppy .held) (now (sheet .entry)) (now (transfer .entry)) ⌝ }
+{
+    let regs = floppy.regs;
+    let mut held = floppy.held;
+    let a = read_parts(regs, &mut held, sheet, transfer);
+    let done = a.done;
+    let after = a.regs;
+    let floppy = Floppy { regs: after, held };
+    Changed { done, floppy }
+}
