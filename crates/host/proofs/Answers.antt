@@ -40,7 +40,7 @@ use Rattle.layout.proofs.Images.{formed-long}
 module _ (l : List ℕ) (v : Bool) (e : v ≡ formed l) where
   -- a test that has failed
   module _ (n : not v ≡ true) where
-    bad : regsIn l ≡ refused BadController
+    pub bad : regsIn l ≡ refused BadController
     unfolding regsIn
     bad = rw (sym e ∙ not-true v n)
 
@@ -59,7 +59,7 @@ module _ (l : List ℕ) (v : Bool) (e : v ≡ formed l) where
     pub here-long : length l ≡ controllerLength
     here-long = formed-long l (sym e ∙ not-false v n)
 
-    well : regsIn l ≡ good (regsAt l)
+    pub well : regsIn l ≡ good (regsAt l)
     unfolding regsIn
     well = rw (sym e ∙ not-false v n)
 
@@ -82,7 +82,7 @@ new-good l m h e = rw (eq-eqb _ _ h) (ap (answered 0) (e ∙ over-front l (repli
 
 -- ---- a byte sent: the held bytes are the part behind the numbers
 
-mid-is : (l : List ℕ) → midOf numbersLength (length l - numbersLength) l ≡ heldAt l
+pub mid-is : (l : List ℕ) → midOf numbersLength (length l - numbersLength) l ≡ heldAt l
 mid-is l = take-all (length l - numbersLength) (drop numbersLength l) (omega (arith, length-drop numbersLength l))
 
 put-is : (l h : List ℕ) → length l ≡ controllerLength → putMid numbersLength (length l - numbersLength) l h ≡ take numbersLength l ++ h
@@ -97,31 +97,36 @@ unfolding leftOf regsOf
 refused-held (refused w) r h t d x a h′ t′ d′ x′ why e q = cc
 refused-held (good s) r h t d x a h′ t′ d′ x′ why e q = never (cc)
 
-module _ (l t d x : List ℕ) (b : ℕ) (a : Written) (h′ t′ d′ x′ : List ℕ) (w : ℕ) (m : List ℕ) (long : length l ≡ controllerLength) where
-  abbrev Put : List ℕ
+-- the bytes with other held bytes in place
+module _ (l h′ : List ℕ) (long : length l ≡ controllerLength) where
+  abbrev pub Put : List ℕ
   Put = putMid numbersLength (length l - numbersLength) l h′
 
-  held-put : heldAt Put ≡ h′
+  pub held-put : heldAt Put ≡ h′
   held-put = ap (drop numbersLength) (put-is l h′ long) ∙ drop-at (take numbersLength l) h′ numbersLength (length-take-le numbersLength l (omega (arith, long)))
 
-  put-back : h′ ≡ heldAt l → Put ≡ l
+  pub put-back : h′ ≡ heldAt l → Put ≡ l
   put-back e = put-is l h′ long ∙ ap (λ (z : List ℕ). take numbersLength l ++ z) e ∙ take-append-drop numbersLength l
+
+module _ (l t d x : List ℕ) (b : ℕ) (a : Written) (h′ t′ d′ x′ : List ℕ) (w : ℕ) (m : List ℕ) (long : length l ≡ controllerLength) where
+  abbrev Laid : List ℕ
+  Laid = Put l h′ long
 
   -- what is then in the bytes, by the answer
   taken-bytes : (z : Receipt) (r : Regs) → ((why : Refusal) → z ≡ receipt.Refused why → h′ ≡ heldAt l)
-      → ifTaken z (relaid Put r) Put ≡ ifTaken z (numbersFor r h′) l
-  taken-bytes receipt.Good r k = ap (numbersFor r) held-put
-  taken-bytes (receipt.Refused why) r k = put-back (k why refl)
+      → ifTaken z (relaid Laid r) Laid ≡ ifTaken z (numbersFor r h′) l
+  taken-bytes receipt.Good r k = ap (numbersFor r) (held-put l h′ long)
+  taken-bytes (receipt.Refused why) r k = put-back l h′ long (k why refl)
 
-  settled : ((why : Refusal) → a .receipt ≡ receipt.Refused why → h′ ≡ heldAt l) → answered w m ≡ writtenOn Put a
+  settled : ((why : Refusal) → a .receipt ≡ receipt.Refused why → h′ ≡ heldAt l) → answered w m ≡ writtenOn Laid a
       → sending w m t′ d′ x′ ≡ postedOn l (left a h′ t′ d′ x′)
   settled k s =
       let p : w ≡ receiptWord (a .receipt) = cc in
-      let q : m ≡ ifTaken (a .receipt) (relaid Put (a .regs)) Put = cc in
+      let q : m ≡ ifTaken (a .receipt) (relaid Laid (a .regs)) Laid = cc in
       λ i. sending (p i) ((q ∙ taken-bytes (a .receipt) (a .regs) k) i) t′ d′ x′
 
   module _ (v : Bool) (e : v ≡ formed l) (n : not v ≡ false) (g : Regs) (f : g ≡ regsAt l)
-      (o : left a h′ t′ d′ x′ ≡ dataWrite g b (midOf numbersLength (length l - numbersLength) l) t d x) (s : answered w m ≡ writtenOn Put a) where
+      (o : left a h′ t′ d′ x′ ≡ dataWrite g b (midOf numbersLength (length l - numbersLength) l) t d x) (s : answered w m ≡ writtenOn Laid a) where
     same : left a h′ t′ d′ x′ ≡ dataWrite (regsAt l) b (heldAt l) t d x
     same = o ∙ (λ i. dataWrite (f i) b (mid-is l i) t d x)
 

@@ -1,5 +1,6 @@
 -- Laws that more than one proof cites; that the exported calls are the calls by value; what `disk_sector` names; what each promise settles.
 pub mod Answers
+pub mod Sheets
 pub mod Same
 pub mod Parts
 pub mod Settled

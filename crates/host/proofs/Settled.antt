@@ -9,8 +9,10 @@ use Rattle.fields.proofs.Tests.{one-outcome}
 use Rattle.store.specs.Store.{tableLength, diskOf}
 use Rattle.store.specs.Calls.{Outcome, outcome, loadOf, freshOf, geometryOf, hasOf}
 use Rattle.layout.specs.Layout.{controllerLength}
+use Rattle.sheet.specs.Calls.{longestSheet}
 use Rattle.words.specs.Words.{geometryWord, hasWord}
 use Rattle.host.specs.Calls.{motorOn, trackOn, diskOn, Answered, answered, newOn, setMotorOn, setDiskOn, statusOn, readOn, Sending, sending, writeOn, worded, partOn}
+use Rattle.host.specs.Calls.{writeSheetOn, TakenUp, takenUp, readSheetOn}
 
 -- ---- by what a promise names
 
@@ -28,6 +30,10 @@ sending-settled : (s : Sending) (r r′ : ℕ) (l l′ t t′ d d′ x x′ : Li
 sending-settled s r r′ l l′ t t′ d d′ x x′ e f =
     let g = one-outcome (sending r l t d x) (sending r′ l′ t′ d′ x′) s e f in (cc, (cc, (cc, (cc, cc))))
 
+-- a word and the bytes of a controller and a transfer buffer
+taken-settled : (u : TakenUp) (r r′ : ℕ) (m m′ y y′ : List ℕ) → takenUp r m y ≡ u → takenUp r′ m′ y′ ≡ u → (r ≡ r′) × ((m ≡ m′) × (y ≡ y′))
+taken-settled u r r′ m m′ y y′ e f = let g = one-outcome (takenUp r m y) (takenUp r′ m′ y′) u e f in (cc, (cc, cc))
+
 -- ---- two words of each call
 
 module _ (r r′ : ℕ) where
@@ -36,6 +42,9 @@ module _ (r r′ : ℕ) where
 
   pub table-length-settled : r ≡ tableLength → r′ ≡ tableLength → r ≡ r′
   table-length-settled = one-outcome r r′ tableLength
+
+  pub sheet-length-settled : r ≡ longestSheet → r′ ≡ longestSheet → r ≡ r′
+  sheet-length-settled = one-outcome r r′ longestSheet
 
   -- calls that ask a controller
   pub motor-settled : (l : List ℕ) → r ≡ motorOn l → r′ ≡ motorOn l → r ≡ r′
@@ -69,6 +78,14 @@ module _ (r r′ : ℕ) where
   pub write-cmd-settled : (l t d x : List ℕ) (b : ℕ) (m m′ u u′ v v′ y y′ : List ℕ) → sending r m u v y ≡ writeOn l t d x b → sending r′ m′ u′ v′ y′ ≡ writeOn l t d x b
       → (r ≡ r′) × ((m ≡ m′) × ((u ≡ u′) × ((v ≡ v′) × (y ≡ y′))))
   write-cmd-settled l t d x b = sending-settled (writeOn l t d x b) r r′
+
+  -- sheets, written to s and read from it
+  pub write-sheet-settled : (l x s m m′ : List ℕ) → answered r m ≡ writeSheetOn l x s → answered r′ m′ ≡ writeSheetOn l x s → (r ≡ r′) × (m ≡ m′)
+  write-sheet-settled l x s = answered-settled (writeSheetOn l x s) r r′
+
+  pub read-sheet-settled : (l x s m m′ y y′ : List ℕ) → takenUp r m y ≡ readSheetOn l x s → takenUp r′ m′ y′ ≡ readSheetOn l x s
+      → (r ≡ r′) × ((m ≡ m′) × (y ≡ y′))
+  read-sheet-settled l x s = taken-settled (readSheetOn l x s) r r′
 
   -- calls on a store
   module _ (t b : List ℕ) where

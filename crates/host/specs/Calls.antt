@@ -31,8 +31,9 @@ use Rattle.registers.specs.Calls.{statusRead, dataRead, motorSet, diskSet, moto
 use Rattle.commands.specs.Lent.{Left, left}
 use Rattle.sending.specs.Calls.{dataWrite}
 use Rattle.floppy.specs.Calls.{newFloppy, Wrote, wrote}
-use Rattle.layout.specs.Layout.{controllerLength, numbersFor, floppyBytes, heldAt, regsIn}
-use Rattle.words.specs.Words.{refusalWord, byteWord, flagWord, doneWord, receiptWord}
+use Rattle.layout.specs.Layout.{controllerLength, numbersFor, floppyBytes, regsAt, heldAt, regsIn}
+use Rattle.sheet.specs.Calls.{Penned, penned, sheetWritten, Resuming, resuming, sheetRead}
+use Rattle.words.specs.Words.{refusalWord, byteWord, flagWord, doneWord, receiptWord, paperWord}
 use Rattle.floppy.specs.declared.Shown.{Shown}
 use Rattle.floppy.specs.declared.Changed.{Changed}
 
@@ -123,6 +124,32 @@ sendingOf l t d x (good r) f = f r
 
 unfoldable pub writeOn : List ℕ → List ℕ → List ℕ → List ℕ → ℕ → Sending
 writeOn l t d x b = sendingOf l t d x (regsIn l) (λ r. postedOn l (dataWrite r b (heldAt l) t d x))
+
+-- ---- Sheets
+
+-- the word, and the buffer that the sheet is written to
+abbrev pub pennedOn : Penned → Answered
+pennedOn (penned a s) = answered (paperWord a) s
+
+-- `floppy_write_sheet`
+unfoldable pub writeSheetOn : List ℕ → List ℕ → List ℕ → Answered
+writeSheetOn l x s = answeredOf s (regsIn l) (λ r. pennedOn (sheetWritten r (heldAt l) x s))
+
+-- the word, and the bytes of controller and transfer buffer then
+pub data TakenUp : Type 0 where
+  takenUp : ℕ → List ℕ → List ℕ → TakenUp
+
+abbrev pub resumedBy : Done → List ℕ → Regs → List ℕ → List ℕ → TakenUp
+resumedBy done.Good l r h x = takenUp 0 (numbersFor r h) x
+resumedBy (done.Refused why) l r h x = takenUp (refusalWord why) l x
+
+abbrev pub resumedOn : List ℕ → Resuming → TakenUp
+resumedOn l (resuming a h x) = resumedBy (a .done) l (a .regs) h x
+
+-- `floppy_read_sheet`: 1 for the length
+unfoldable pub readSheetOn : List ℕ → List ℕ → List ℕ → TakenUp
+readSheetOn l x s =
+    cond (eqb (length l) controllerLength) (resumedOn l (sheetRead (regsAt l) (heldAt l) s x)) (takenUp (refusalWord BadController) l x)
 
 -- ---- Calls on a store
 

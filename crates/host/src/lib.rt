@@ -13,6 +13,9 @@ use registers::Receipt;
 use registers::Switched;
 use registers::Told;
 use registers::Written;
+use sheet::LONGEST;
+use sheet::read_parts;
+use sheet::write_parts;
 use store::Done;
 use store::Place;
 use store::TABLE;
@@ -21,6 +24,7 @@ use words::done_word;
 use words::flag_word;
 use words::geometry_word;
 use words::has_word;
+use words::paper_word;
 use words::receipt_word;
 use words::refusal_word;
 use words::wide;
@@ -31,9 +35,10 @@ ghost use lib.Dec.{eqb};
 ghost use Rattle.store.specs.Store.{tableLength, diskOf};
 ghost use Rattle.store.specs.Calls.{outcome, loadOf, freshOf, geometryOf, hasOf};
 ghost use Rattle.layout.specs.Layout.{controllerLength};
+ghost use Rattle.sheet.specs.Calls.{longestSheet};
 ghost use Rattle.words.specs.Words.{geometryWord, hasWord};
 ghost use Rattle.host.specs.Calls.{answered, toldOn, switchedOn, writtenOn, newOn, setMotorOn, motorOn, trackOn, setDiskOn, diskOn, statusOn};
-ghost use Rattle.host.specs.Calls.{readOn, sending, writeOn, worded, partOn};
+ghost use Rattle.host.specs.Calls.{readOn, sending, writeOn, writeSheetOn, takenUp, readSheetOn, worded, partOn};
 
 // ---- lengths
 
@@ -51,6 +56,14 @@ pub extern "C" fn disk_table_length() -> u64
     ensures { λ r. ⌜ r ≡ tableLength ⌝ }
 {
     TABLE as u64
+}
+
+// Answers how many bytes the longest sheet is, as a plain number.
+#[no_mangle]
+pub extern "C" fn floppy_sheet_length() -> u64
+    ensures { λ r. ⌜ r ≡ longestSheet ⌝ }
+{
+    LONGEST as u64
 }
 
 // ---- the controller
@@ -217,6 +230,37 @@ pub extern "C" fn floppy_write_cmd(
     let regs = decode(controller);
     let a = sending::write_cmd(regs, b, &mut controller[NUMBERS..], table, bytes, transfer);
     settle(a, controller)
+}
+
+// ---- sheets
+
+// Writes the controller out as a sheet at the buffer's start, and answers its length in bits 32 to 63; bytes behind it stay. 1 where no controller
+// has these bytes or their data end past the transfer buffer, then 13 for a buffer that is too short: it stays.
+#[no_mangle]
+pub extern "C" fn floppy_write_sheet(controller: &[u8], transfer: &[u8], sheet: &mut [u8]) -> u64
+    ensures { λ r. ⌜ answered r (now (sheet .exit)) ≡ writeSheetOn (now (controller .entry)) (now (transfer .entry)) (now (sheet .entry)) ⌝ }
+{
+    if !formed(controller) {
+        return refusal_word(Refusal::BadController);
+    }
+    let regs = decode(controller);
+    paper_word(write_parts(regs, &controller[NUMBERS..], transfer, sheet))
+}
+
+// Makes the bytes the controller of a sheet, which all of `sheet` is, with no disk, whatever they were. Its unread data are laid from the transfer
+// buffer's start; bytes behind them stay. 1 for a controller of another length, 11 for bytes that are no sheet, 9 for unread data over the room, in
+// this order: both buffers stay.
+#[no_mangle]
+pub extern "C" fn floppy_read_sheet(controller: &mut [u8], transfer: &mut [u8], sheet: &[u8]) -> u64
+    ensures { λ r. ⌜ takenUp r (now (controller .exit)) (now (transfer .exit))
+        ≡ readSheetOn (now (controller .entry)) (now (transfer .entry)) (now (sheet .entry)) ⌝ }
+{
+    if controller.len() != LENGTH {
+        return refusal_word(Refusal::BadController);
+    }
+    let regs = decode(controller);
+    let a = read_parts(regs, &mut controller[NUMBERS..], sheet, transfer);
+    switch(a, controller)
 }
 
 // ---- the disk

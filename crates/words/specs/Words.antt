@@ -1,5 +1,5 @@
 -- The answer word: the byte in bits 0 to 7, the refusal number in bits 8 to 15. A refused call answers its number alone.
-use Prim.Native.Nat.{ℕ, _+_, _*_}
+use Prim.Native.Nat.{ℕ, _+_, _*_, _^_}
 use mathlib.Core.Bool.{Bool, true, false}
 use Rattle.fields.specs.Refusals.{numberOf}
 use Rattle.fields.specs.declared.refusal.Refusal.{Refusal}
@@ -15,6 +15,8 @@ use Rattle.registers.specs.declared.regs.Byte.{Byte}
 use Rattle.registers.specs.declared.regs.Byte.the-variants as byte
 use Rattle.registers.specs.declared.regs.Flag.{Flag}
 use Rattle.registers.specs.declared.regs.Flag.the-variants as flag
+use Rattle.sheet.specs.declared.writing.Paper.{Paper}
+use Rattle.sheet.specs.declared.writing.Paper.the-variants as paper
 
 abbrev pub refusalWord : Refusal → ℕ
 refusalWord why = 256 * numberOf why
@@ -49,3 +51,8 @@ hasWord (has.Refused why) = refusalWord why
 abbrev pub geometryWord : Geometry → ℕ
 geometryWord (geometry.Of c0 c1) = c0 + 65536 * c1
 geometryWord (geometry.Refused why) = refusalWord why
+
+-- the length of the sheet in bits 32 to 63
+abbrev pub paperWord : Paper → ℕ
+paperWord (paper.Of n) = n * 2 ^ 32
+paperWord (paper.Refused why) = refusalWord why

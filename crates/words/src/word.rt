@@ -3,11 +3,12 @@ use fields::Refusal;
 use registers::Byte;
 use registers::Flag;
 use registers::Receipt;
+use sheet::Paper;
 use store::Done;
 use store::Geometry;
 use store::Has;
 ghost use mathlib.Core.Path.{_≡_};
-ghost use Rattle.words.specs.Words.{refusalWord, boolWord, byteWord, flagWord, doneWord, receiptWord, hasWord, geometryWord};
+ghost use Rattle.words.specs.Words.{refusalWord, boolWord, byteWord, flagWord, doneWord, receiptWord, hasWord, geometryWord, paperWord};
 
 pub fn wide(b: u8) -> u64
     ensures { λ r. ⌜ r ≡ b ⌝ }
@@ -79,5 +80,14 @@ pub fn geometry_word(a: Geometry) -> u64
     match a {
         Geometry::Of(c0, c1) => wide(c0) + 65536 * wide(c1),
         Geometry::Refused(why) => refusal_word(why),
+    }
+}
+
+pub fn paper_word(a: Paper) -> u64
+    ensures { λ r. ⌜ r ≡ paperWord a ⌝ }
+{
+    match a {
+        Paper::Of(n) => (n as u64) * 4294967296,
+        Paper::Refused(why) => refusal_word(why),
     }
 }
