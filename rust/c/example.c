@@ -1,6 +1,7 @@
 /*
  * Reads a sector through the ports, changes it, saves it through the ports and reads it again, on a small image that
- * is made here. It prints what examples/save.rs prints.
+ * is made here. In the middle of the save the controller is written out as a sheet and taken up from it. It prints what
+ * examples/save.rs prints.
  */
 #include <stdio.h>
 #include <stdlib.h>
@@ -11,8 +12,8 @@
 enum { EXECUTING = 0x20, GIVES = 0x40, SECTOR = 256 };
 
 /* What the library is lent. */
-static uint8_t *controller, *table;
-static size_t controller_length, table_length;
+static uint8_t *controller, *table, *sheet;
+static size_t controller_length, table_length, longest_sheet;
 static uint8_t data[SECTOR], transfer[SECTOR];
 
 /* The byte that a word answers. A refusal ends the program. */
@@ -105,15 +106,36 @@ static void find(uint8_t id[4])
     printf("\nsector: c %d h %d r %d n %d\n", id[0], id[1], id[2], id[3]);
 }
 
+/* Writes the controller out as a sheet, and takes it up from there with its disk, as a host does on the next day. */
+static void pause_and_resume(void)
+{
+    uint64_t word = floppy_write_sheet(controller, controller_length, transfer, sizeof transfer, sheet, longest_sheet);
+    size_t length = kafondiye_sheet_length(word);
+    answer(word);
+    memset(controller, 0xff, controller_length);
+    memset(transfer, 0xff, sizeof transfer);
+    answer(floppy_read_sheet(controller, controller_length, transfer, sizeof transfer, sheet, length));
+    answer(floppy_set_disk(controller, controller_length, 1));
+    printf("paused: a sheet of %d bytes\n", (int)length);
+}
+
+/* What the library says of lengths, and the bytes for them. */
+static int lend(void)
+{
+    controller_length = (size_t)floppy_controller_length();
+    table_length = (size_t)disk_table_length();
+    longest_sheet = (size_t)floppy_sheet_length();
+    controller = malloc(controller_length);
+    table = malloc(table_length);
+    sheet = malloc(longest_sheet);
+    return controller != NULL && table != NULL && sheet != NULL;
+}
+
 int main(void)
 {
     uint8_t id[4], bytes[SECTOR], again[SECTOR];
     size_t count, length;
-    controller_length = (size_t)floppy_controller_length();
-    table_length = (size_t)disk_table_length();
-    controller = malloc(controller_length);
-    table = malloc(table_length);
-    if (controller == NULL || table == NULL)
+    if (!lend())
         return EXIT_FAILURE;
     load();
     answer(floppy_new(controller, controller_length));
@@ -126,6 +148,8 @@ int main(void)
     show("read", bytes, count);
     command(0x45, id);
     for (length = 0; length < count && (status() & EXECUTING) != 0; length++) {
+        if (length == count / 2)
+            pause_and_resume();
         bytes[length] = (uint8_t)~bytes[length];
         send(bytes + length, 1);
     }
@@ -139,5 +163,6 @@ int main(void)
     printf("what was read again is what was saved\n");
     free(controller);
     free(table);
+    free(sheet);
     return EXIT_SUCCESS;
 }

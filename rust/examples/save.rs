@@ -1,4 +1,5 @@
-//! Reads a sector through the ports, changes it, saves it through the ports and reads it again.
+//! Reads a sector through the ports, changes it, saves it through the ports and reads it again. In the middle of the
+//! save the controller is written out as a sheet and taken up from it.
 //!
 //!     cargo run --example save [IMAGE]
 //!
@@ -94,11 +95,24 @@ fn write_sector(
     send(controller, &[0x45, 0x00, c, h, r, n, r, 0x2a, 0xff])?;
     let mut new = Vec::new();
     while controller.read_status()? & EXECUTING != 0 {
+        if new.len() == old.len() / 2 {
+            pause_and_resume(controller)?;
+        }
         let byte = !old.get(new.len()).copied().unwrap_or(0);
         controller.write_cmd(byte)?;
         new.push(byte);
     }
     Ok((new, take(controller, GIVES)?))
+}
+
+/// Writes the controller out as a sheet, and takes it up from there with its disk, as a host does on the next day.
+fn pause_and_resume(controller: &mut Controller) -> Result<(), Refusal> {
+    let sheet = controller.to_sheet();
+    let disk = controller.set_disk(None);
+    *controller = Controller::from_sheet(&sheet)?;
+    controller.set_disk(disk);
+    println!("paused: a sheet of {} bytes", sheet.len());
+    Ok(())
 }
 
 /// Sends bytes to the data port.

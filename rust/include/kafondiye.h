@@ -4,12 +4,15 @@
  *
  * All bytes are the host's. It lends them to each call, and the library keeps nothing between calls:
  *
- *   controller   floppy_controller_length() bytes, made by floppy_new; docs/HOST.md has their layout
+ *   controller   floppy_controller_length() bytes, made by floppy_new or floppy_read_sheet; docs/HOST.md has their
+ *                layout
  *   table        disk_table_length() bytes, and
  *   data         bytes for the sectors' contents (room: its length, or 1,048,576 if that is less): together the
  *                store, which holds one disk; made by disk_new or disk_new_formatted; docs/STORE.md has the layout
  *   transfer     bytes for what a Read Data reads (room: its length, or 65,536 if that is less); lend the same ones
  *                until they are read
+ *   sheet        a controller without its disk, written out to be kept, floppy_sheet_length() bytes at most;
+ *                docs/SHEET.md has its form
  *
  * A part is a pointer and a length. The pointer is not null, even where the length is 0, and no two parts overlap of
  * which one may be changed. A length that does not fit and bytes that cannot be are refused, so no call needs a
@@ -28,7 +31,7 @@
 extern "C" {
 #endif
 
-/* Why a call was refused. Number 10 belongs to a program that lists images, and no call answers it. */
+/* Why a call was refused. No call answers 10, which belongs to a program that lists images, and none answers 12. */
 enum kafondiye_refusal {
     KAFONDIYE_NOT_REFUSED = 0,
     KAFONDIYE_BAD_CONTROLLER = 1,   /* no controller has these bytes, or its data exceed the transfer room */
@@ -39,7 +42,9 @@ enum kafondiye_refusal {
     KAFONDIYE_TOO_MANY_TRACKS = 6,  /* the disk would have more than 204 tracks */
     KAFONDIYE_TOO_MANY_SECTORS = 7, /* the disk would have more than 2,048 sectors */
     KAFONDIYE_NO_ROOM = 8,          /* the disk's bytes would exceed the data room */
-    KAFONDIYE_NO_TRANSFER_ROOM = 9  /* the bytes of a Read Data exceed the transfer room */
+    KAFONDIYE_NO_TRANSFER_ROOM = 9, /* the bytes of a Read Data, or a sheet's unread data, exceed the transfer room */
+    KAFONDIYE_BAD_SHEET = 11,       /* not a sheet, or no controller has what is in it */
+    KAFONDIYE_SHORT_BUFFER = 13     /* a buffer is too short for what would be written to it */
 };
 
 /* The byte that a word answers, 0 where it answers none: bits 0 to 7. */
@@ -72,11 +77,20 @@ static inline size_t kafondiye_place(uint64_t word)
     return (size_t)(word >> 32);
 }
 
+/* How many bytes a sheet has, out of the answer of floppy_write_sheet: bits 32 to 63. */
+static inline size_t kafondiye_sheet_length(uint64_t word)
+{
+    return (size_t)(word >> 32);
+}
+
 /* How many bytes a controller has. Not a word but a plain number. */
 uint64_t floppy_controller_length(void);
 
 /* How many bytes a disk's table has. Not a word but a plain number. */
 uint64_t disk_table_length(void);
+
+/* How many bytes the longest sheet has. Not a word but a plain number. */
+uint64_t floppy_sheet_length(void);
 
 /* Makes the bytes those of a new controller, with no disk in the drive. */
 uint64_t floppy_new(uint8_t *controller, size_t length);
@@ -114,6 +128,21 @@ uint64_t floppy_read_cmd(uint8_t *controller, size_t length, const uint8_t *tran
  */
 uint64_t floppy_write_cmd(uint8_t *controller, size_t length, uint8_t *table, size_t table_length, uint8_t *data,
                           size_t data_length, uint8_t *transfer, size_t transfer_length, uint8_t b);
+
+/*
+ * Writes the controller, with its unread data, as a sheet to the start of the buffer, and answers its length:
+ * kafondiye_sheet_length. Bytes behind it stay. With floppy_sheet_length() bytes no buffer is too short.
+ */
+uint64_t floppy_write_sheet(const uint8_t *controller, size_t length, const uint8_t *transfer, size_t transfer_length,
+                            uint8_t *sheet, size_t sheet_length);
+
+/*
+ * Makes the bytes the controller of a sheet, whatever they were, with no disk in the drive. Lend the sheet alone, with
+ * nothing behind it. Its unread data are laid at the start of the transfer buffer; bytes behind them stay. Put its disk
+ * in with floppy_set_disk, lend no less transfer room than before, and it goes on as the one that was written out.
+ */
+uint64_t floppy_read_sheet(uint8_t *controller, size_t length, uint8_t *transfer, size_t transfer_length,
+                           const uint8_t *sheet, size_t sheet_length);
 
 /* Loads a DSK image, normal or extended, into a store. */
 uint64_t disk_new(const uint8_t *image, size_t image_length, uint8_t *table, size_t table_length, uint8_t *data,

@@ -12,6 +12,11 @@ pub fn table_length() -> usize {
     length(words::lengths().1)
 }
 
+/// How many bytes the longest sheet has.
+pub fn sheet_length() -> usize {
+    length(words::sheet_length())
+}
+
 /// Makes the bytes those of a new controller.
 pub fn new(controller: &mut [u8]) -> Result<(), Refusal> {
     done(words::new(controller))
@@ -63,6 +68,17 @@ pub fn write_cmd(
     done(words::write_cmd(controller, table, data, transfer, b))
 }
 
+/// Writes the controller out as a sheet to the buffer's start, and says how long it is.
+pub fn write_sheet(controller: &[u8], transfer: &[u8], sheet: &mut [u8]) -> Result<usize, Refusal> {
+    let word = words::write_sheet(controller, transfer, sheet);
+    answer(word).map(|_| high(word))
+}
+
+/// Makes the bytes the controller of a sheet, with no disk.
+pub fn read_sheet(controller: &mut [u8], transfer: &mut [u8], sheet: &[u8]) -> Result<(), Refusal> {
+    done(words::read_sheet(controller, transfer, sheet))
+}
+
 /// Loads an image into a store.
 pub fn load(image: &[u8], table: &mut [u8], data: &mut [u8]) -> Result<(), Refusal> {
     done(words::disk_new(image, table, data))
@@ -99,13 +115,18 @@ pub fn sector<'a>(
     SectorId { c, h, r, n }: SectorId,
 ) -> &'a [u8] {
     let word = words::sector(table, data, [side, cylinder, c, h, r, n]);
-    let place = (word >> 32) as usize;
+    let place = high(word);
     &data[place..place + length(word)]
 }
 
 /// The length in bits 0 to 31 of a word.
 fn length(word: u64) -> usize {
     word as u32 as usize
+}
+
+/// The place or the length in bits 32 to 63 of a word.
+fn high(word: u64) -> usize {
+    (word >> 32) as usize
 }
 
 /// The byte that an answer word bears, or its refusal.
@@ -136,6 +157,7 @@ mod tests {
     fn lengths_are_those_of_the_documents() {
         assert_eq!(controller_length(), 1_066);
         assert_eq!(table_length(), 17_609);
+        assert_eq!(sheet_length(), 66_610);
     }
 
     #[test]
@@ -144,6 +166,8 @@ mod tests {
         let mut table = vec![0; table_length()];
         let mut data = [0; 1];
         let image = [0; 12];
+        let new = vec![0; controller_length()];
+        let mut sheet = [0; 30];
         let words = [
             words::new(&mut own),
             words::motor(&own),
@@ -151,8 +175,60 @@ mod tests {
             words::disk_new(&image[1..], &mut table, &mut data),
             words::disk_new(&image, &mut table, &mut data),
             words::disk_new_formatted(&mut table, &mut data),
+            words::write_sheet(&own, &[], &mut sheet),
+            words::write_sheet(&new, &[], &mut sheet),
         ];
-        assert_eq!(words, [0x100, 0x100, 0x200, 0x300, 0x400, 0x800]);
+        let numbers = [1, 1, 2, 3, 4, 8, 1, 13];
+        assert_eq!(words, numbers.map(|number| number << 8));
+    }
+
+    #[test]
+    fn a_sheet_stands_at_the_buffers_start_and_the_bytes_behind_it_stay() {
+        let new = vec![0; controller_length()];
+        let mut sheet = [7; 32];
+        assert_eq!(words::write_sheet(&new, &[], &mut sheet), 31 << 32);
+        assert_eq!(sheet[..5], [1, 0, 0, 0, 26]);
+        assert_eq!(sheet[31], 7);
+    }
+
+    /// The sheet of a controller that is new but for two unread bytes, 8 and 9.
+    const TWO_UNREAD: [u8; 33] = [
+        1, 0, 0, 0, 28, // version, length of the rest
+        0, 1, 0, 0, 1, 0, 0, 1, 0, 0, 2, 0, 0, // motor, cylinder, seek state, ID index
+        0, 0, 0, 0, // no command, no reply
+        0, 0, 0, 2, 8, 9, // unread data
+        0, 1, 0, 0, 0, // lost count, no write
+    ];
+
+    #[test]
+    fn a_sheet_that_is_read_leaves_the_transfer_bytes_behind_its_data() {
+        let mut own = vec![5; controller_length()];
+        let mut transfer = [5; 3];
+        let word = words::read_sheet(&mut own, &mut transfer, &TWO_UNREAD);
+        assert_eq!(word, 0);
+        assert_eq!(transfer, [8, 9, 5]);
+        assert_eq!(disk(&own), Ok(false));
+        assert_eq!(read_cmd(&mut own, &transfer), Ok(8));
+    }
+
+    #[test]
+    fn a_sheet_is_refused_with_1_then_11_then_9_and_no_byte_changes() {
+        let mut bad = TWO_UNREAD;
+        bad[0] = 2;
+        let length = controller_length();
+        let cases = [
+            (length - 1, bad, 1),
+            (length + 1, TWO_UNREAD, 1),
+            (length, bad, 11),
+            (length, TWO_UNREAD, 9),
+        ];
+        for (length, sheet, number) in cases {
+            let mut own = vec![5; length];
+            let mut transfer = [5; 1];
+            let word = words::read_sheet(&mut own, &mut transfer, &sheet);
+            assert_eq!(word, number << 8);
+            assert_eq!((own, transfer), (vec![5; length], [5; 1]));
+        }
     }
 
     #[test]

@@ -5,10 +5,11 @@ use std::mem;
 
 use crate::{Disk, Refusal, calls};
 
-/// Why a call on a controller is not refused with 1: its bytes were made by the library or judged by it, nobody
+/// Why a call on a controller is not refused with 1: its bytes were made by the library, new or from a sheet, nobody
 /// else alters them, and the transfer room grows only, or is judged again. Over any calls they then stay those of a
-/// controller: `bytes-formed` and `bytes-tame` (docs/PROMISES.md, "Over any calls").
-const GOOD: &str = "a controller's bytes are good: the library has made or judged them";
+/// controller: `bytes-formed` and `bytes-tame` (docs/PROMISES.md, "Over any calls"). Nor is a sheet refused with 13:
+/// the buffer is as long as the longest.
+const GOOD: &str = "a controller's bytes are good: the library has made them";
 
 /// A floppy controller with one drive.
 ///
@@ -41,27 +42,76 @@ impl Controller {
         Controller { bytes, disk: None }
     }
 
-    /// All that the controller is, without the disk: its own bytes, in the layout of `docs/HOST.md`, and behind
-    /// them the whole transfer buffer, with the data that are unread and what is left of earlier ones. With a
-    /// disk's [`table`](Disk::table) and [`data`](Disk::data) this is a session, which can be taken up later.
-    pub fn as_bytes(&self) -> &[u8] {
-        &self.bytes
+    /// The controller written out as a sheet, for a session that goes on later: motor, cylinder, seek state, ID
+    /// index, a command that is partly sent, unread reply and data, lost count, and a write in progress with its
+    /// bytes so far. Controllers with the same in them have the same sheet. `docs/SHEET.md` has its form.
+    ///
+    /// It says nothing of the disk, of which [`table`](Disk::table) and [`data`](Disk::data) are to be kept beside
+    /// it, nor of the transfer room.
+    ///
+    /// ```
+    /// use kafondiye::{Controller, Disk, Refusal, SectorId};
+    ///
+    /// fn main() -> Result<(), Refusal> {
+    ///     let mut controller = Controller::new();
+    ///     controller.set_disk(Some(Disk::new_formatted()));
+    ///
+    ///     // Write Data of sector 1, and of its 512 bytes the first 200.
+    ///     for byte in [0x45, 0x00, 0x00, 0x00, 0x01, 0x02, 0x01, 0x2a, 0xff] {
+    ///         controller.write_cmd(byte)?;
+    ///     }
+    ///     for _ in 0..200 {
+    ///         controller.write_cmd(0x11)?;
+    ///     }
+    ///
+    ///     // In the evening the controller and its disk are kept,
+    ///     let sheet = controller.to_sheet();
+    ///     let disk = controller.set_disk(None).expect("the disk that is in");
+    ///     let (table, data) = (disk.table().to_vec(), disk.data().to_vec());
+    ///
+    ///     // and in the morning both are taken up.
+    ///     let mut controller = Controller::from_sheet(&sheet)?;
+    ///     controller.set_disk(Some(Disk::from_parts(table, data)?));
+    ///
+    ///     // The write goes on where it was left.
+    ///     assert_eq!(controller.read_status()?, 0xb0);
+    ///     for _ in 200..512 {
+    ///         controller.write_cmd(0x22)?;
+    ///     }
+    ///     let disk = controller.disk().expect("the disk that is in");
+    ///     let id = SectorId { c: 0, h: 0, r: 1, n: 2 };
+    ///     let saved = [[0x11; 200].as_slice(), &[0x22; 312]].concat();
+    ///     assert_eq!(disk.sector(0, 0, id), Some(&saved[..]));
+    ///     Ok(())
+    /// }
+    /// ```
+    pub fn to_sheet(&self) -> Vec<u8> {
+        let (own, transfer) = self.parts();
+        let mut sheet = vec![0; calls::sheet_length()];
+        let length = calls::write_sheet(own, transfer, &mut sheet).expect(GOOD);
+        sheet.truncate(length);
+        sheet.shrink_to_fit();
+        sheet
     }
 
-    /// The controller that gave these bytes by [`as_bytes`](Controller::as_bytes), with no disk in the drive.
-    /// Once its disk is [put in](Controller::set_disk), it goes on as that controller would have.
+    /// The controller of a sheet, with no disk in the drive and the largest transfer room. Once its disk is
+    /// [put in](Controller::set_disk), it goes on as the one that gave the sheet would have.
     ///
-    /// [`Refusal::BadController`] where no controller has such bytes.
-    pub fn from_bytes(bytes: &[u8]) -> Result<Controller, Refusal> {
-        let (own, transfer) = bytes.split_at(bytes.len().min(calls::controller_length()));
-        let room = transfer.len().min(Controller::LARGEST_TRANSFER_ROOM);
-        let transfer = &transfer[..room];
-        judge(own, transfer)?;
-        let mut controller = Controller {
-            bytes: [own, transfer].concat(),
-            disk: None,
-        };
-        controller.set_disk(None);
+    /// [`Refusal::BadSheet`] where the bytes are not a sheet, [`Refusal::NoTransferRoom`] where its unread data have
+    /// more than 65,536 bytes, as those of no controller have.
+    pub fn from_sheet(sheet: &[u8]) -> Result<Controller, Refusal> {
+        Controller::from_sheet_with_transfer_room(sheet, Controller::LARGEST_TRANSFER_ROOM)
+    }
+
+    /// The same with this transfer room, or [`LARGEST_TRANSFER_ROOM`](Controller::LARGEST_TRANSFER_ROOM) if that is
+    /// less: for a host that has chosen one, since a sheet does not say how large it was.
+    ///
+    /// [`Refusal::BadSheet`] where the bytes are not a sheet, then [`Refusal::NoTransferRoom`] where its unread data
+    /// exceed the room.
+    pub fn from_sheet_with_transfer_room(sheet: &[u8], room: usize) -> Result<Controller, Refusal> {
+        let mut controller = Controller::with_transfer_room(room);
+        let (own, transfer) = controller.parts_mut();
+        calls::read_sheet(own, transfer, sheet)?;
         Ok(controller)
     }
 

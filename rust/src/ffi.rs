@@ -1,7 +1,7 @@
 //! The exported calls of the static library, as C has them. `include/kafondiye.h` declares the same for C.
 //!
 //! Each answers one word: bits 0 to 7 are the byte that it answers, bits 8 to 15 the refusal number, 0 where
-//! nothing was refused. The two lengths and [`disk_sector`] answer plain numbers. A slice is a pointer and a
+//! nothing was refused. The three lengths and [`disk_sector`] answer plain numbers. A slice is a pointer and a
 //! length. The calls keep nothing between them: all that they know is in the bytes that are lent.
 //!
 //! # Safety
@@ -48,6 +48,27 @@ unsafe extern "C" {
         transfer: *mut u8,
         transfer_length: usize,
         b: u8,
+    ) -> u64;
+
+    /// Answers how many bytes the longest sheet has.
+    pub fn floppy_sheet_length() -> u64;
+    /// Writes the controller out as a sheet, and answers its length in bits 32 to 63.
+    pub fn floppy_write_sheet(
+        controller: *const u8,
+        length: usize,
+        transfer: *const u8,
+        transfer_length: usize,
+        sheet: *mut u8,
+        sheet_length: usize,
+    ) -> u64;
+    /// Makes the bytes the controller of a sheet, with no disk.
+    pub fn floppy_read_sheet(
+        controller: *mut u8,
+        length: usize,
+        transfer: *mut u8,
+        transfer_length: usize,
+        sheet: *const u8,
+        sheet_length: usize,
     ) -> u64;
 
     /// Loads a DSK image, normal or extended, into a store.

@@ -29,8 +29,8 @@
 //! }
 //! ```
 //!
-//! A session starts with a new controller, or with one that is restored from its bytes; nothing else is carried
-//! over from one controller to another, because the library keeps nothing between calls.
+//! A session starts with a new controller, or with one that is taken up from its [sheet](Controller::to_sheet);
+//! nothing else is carried over from one controller to another, because the library keeps nothing between calls.
 
 #![deny(missing_docs)]
 #![deny(unsafe_code)]

@@ -5,8 +5,8 @@ use std::fmt;
 
 /// Why a call was refused. Whatever the reason, the call has changed nothing.
 ///
-/// The numbers are those of the exported calls. Number 10 is missing: it belongs to a program that lists images,
-/// and no call answers it.
+/// The numbers are those of the exported calls. Numbers 10 and 12 are missing, because no call answers them: 10
+/// belongs to a program that lists images.
 #[derive(Clone, Copy, Debug, PartialEq, Eq, Hash)]
 #[non_exhaustive]
 #[repr(u8)]
@@ -27,13 +27,17 @@ pub enum Refusal {
     TooManySectors = 7,
     /// 8: the disk's bytes would not fit into its data room.
     NoRoom = 8,
-    /// 9: the bytes of a Read Data would not fit into the transfer room.
+    /// 9: the bytes of a Read Data, or the unread data of a sheet, would not fit into the transfer room.
     NoTransferRoom = 9,
+    /// 11: the bytes are not a sheet, or no controller has what is in it.
+    BadSheet = 11,
+    /// 13: a buffer is too short for what would be written to it. This crate lends none that is.
+    ShortBuffer = 13,
 }
 
 impl Refusal {
-    /// Every refusal, in the order of the numbers, which begin with 1.
-    const ALL: [Refusal; 9] = [
+    /// Every refusal, in the order of the numbers.
+    const ALL: [Refusal; 11] = [
         Refusal::BadController,
         Refusal::BadStore,
         Refusal::ShortImage,
@@ -43,6 +47,8 @@ impl Refusal {
         Refusal::TooManySectors,
         Refusal::NoRoom,
         Refusal::NoTransferRoom,
+        Refusal::BadSheet,
+        Refusal::ShortBuffer,
     ];
 
     /// The number by which the exported calls know it.
@@ -52,8 +58,8 @@ impl Refusal {
 
     /// The refusal that has this number, if there is one.
     pub fn from_number(number: u8) -> Option<Refusal> {
-        let place = usize::from(number).checked_sub(1)?;
-        Refusal::ALL.get(place).copied()
+        let mut all = Refusal::ALL.into_iter();
+        all.find(|refusal| refusal.number() == number)
     }
 
     /// What it means, and what a host can do.
@@ -61,7 +67,7 @@ impl Refusal {
         match self {
             Refusal::BadController => {
                 "these are not the bytes of a controller, or its data do not fit into the transfer room; \
-                 use the bytes that a controller gave, uncut, or begin with a new one"
+                 give it the room that they take, or begin with a new one"
             }
             Refusal::BadStore => {
                 "table and data do not hold a disk; use them as a disk gave them, uncut, or load the image again"
@@ -85,8 +91,14 @@ impl Refusal {
                 "the bytes of the disk would exceed its data room; give it more, up to 1,048,576 bytes, and try again"
             }
             Refusal::NoTransferRoom => {
-                "the bytes of the read exceed the transfer room; give it more, up to 65,536 bytes, and send the \
-                 byte again"
+                "the bytes of the read, or the unread data of the sheet, exceed the transfer room; give it more, up \
+                 to 65,536 bytes, and send the byte, or take up the sheet, again"
+            }
+            Refusal::BadSheet => {
+                "this is not a sheet, or no controller has what is in it; use a sheet as a controller gave it, uncut"
+            }
+            Refusal::ShortBuffer => {
+                "the buffer is too short for what would be written to it; lend a longer one"
             }
         }
     }

@@ -17,6 +17,11 @@ pub fn lengths() -> (u64, u64) {
     unsafe { (ffi::floppy_controller_length(), ffi::disk_table_length()) }
 }
 
+/// How many bytes the longest sheet has.
+pub fn sheet_length() -> u64 {
+    unsafe { ffi::floppy_sheet_length() }
+}
+
 /// Makes the bytes those of a new controller.
 pub fn new(controller: &mut [u8]) -> u64 {
     unsafe { ffi::floppy_new(controller.as_mut_ptr(), controller.len()) }
@@ -83,6 +88,34 @@ pub fn write_cmd(
             transfer.as_mut_ptr(),
             transfer.len(),
             b,
+        )
+    }
+}
+
+/// Writes the controller out as a sheet.
+pub fn write_sheet(controller: &[u8], transfer: &[u8], sheet: &mut [u8]) -> u64 {
+    unsafe {
+        ffi::floppy_write_sheet(
+            controller.as_ptr(),
+            controller.len(),
+            transfer.as_ptr(),
+            transfer.len(),
+            sheet.as_mut_ptr(),
+            sheet.len(),
+        )
+    }
+}
+
+/// Makes the bytes the controller of a sheet, with no disk.
+pub fn read_sheet(controller: &mut [u8], transfer: &mut [u8], sheet: &[u8]) -> u64 {
+    unsafe {
+        ffi::floppy_read_sheet(
+            controller.as_mut_ptr(),
+            controller.len(),
+            transfer.as_mut_ptr(),
+            transfer.len(),
+            sheet.as_ptr(),
+            sheet.len(),
         )
     }
 }

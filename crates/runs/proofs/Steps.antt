@@ -231,7 +231,7 @@ module _ (k : Host) (s : Sound k) where
   unfolding transferRoom
   wider y = simp length-append (omega arith)
 
-  no-smaller : (y : List ℕ) → N ≤ transferRoom (k .transfer ++ y)
+  pub no-smaller : (y : List ℕ) → N ≤ transferRoom (k .transfer ++ y)
   unfolding transferRoom
   no-smaller y = simp length-append (omega arith)
 

@@ -54,11 +54,11 @@ both-equal (x ∷ xs) (y ∷ ys) p = λ i. p .0 i ∷ both-equal xs ys (p .1) i
 
 -- ---- the store after a call, by what is seen before it
 
-abbrev putBy : Result Sent → Option Disk
+abbrev pub putBy : Result Sent → Option Disk
 putBy (refused why) = none
 putBy (good y) = y .effect .put
 
-abbrev tableThen : Event → Stage → List ℕ → List ℕ
+abbrev pub tableThen : Event → Stage → List ℕ → List ℕ
 tableThen poll g t = t
 tableThen read g t = t
 tableThen (send b) g t = tableWith (putBy (sent (g .setting) (g .world .inside) b)) t
@@ -67,7 +67,7 @@ tableThen (switch on) g t = t
 tableThen (swap present u v) g t = u
 tableThen (widen y) g t = t
 
-abbrev dataThen : Event → Stage → List ℕ → List ℕ
+abbrev pub dataThen : Event → Stage → List ℕ → List ℕ
 dataThen poll g b = b
 dataThen read g b = b
 dataThen (send x) g b = dataWith (putBy (sent (g .setting) (g .world .inside) x)) b
@@ -77,7 +77,7 @@ dataThen (swap present u v) g b = v
 dataThen (widen y) g b = b
 
 module _ (k : Host) (s : Sound k) where
-  abbrev Store : Event → Type 0
+  abbrev pub Store : Event → Type 0
   Store e = (called e k .then .table ≡ tableThen e (stageOf k) (k .table)) × (called e k .then .bytes ≡ dataThen e (stageOf k) (k .bytes))
 
   sent-store : (b : ℕ) → Store (send b)
@@ -98,7 +98,8 @@ module _ (k : Host) (s : Sound k) where
         ap (λ (l : Left). afterWrote (wroteAs l) .then .bytes) (write-as k s b y e) ∙ left-data y ∙ ap (λ (z : Result Sent). dataWith (putBy z) (k .bytes)) (sym e),
       )
 
-  swapped-store : (present : Bool) (t b : List ℕ) → Store (swap present t b)
+  -- a disk change lends the other store from then on
+  pub swapped-store : (present : Bool) (t b : List ℕ) → Store (swap present t b)
   unfolding called
   swapped-store present t b =
       let r = k .floppy .regs in

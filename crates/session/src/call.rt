@@ -1,4 +1,6 @@
 // The calls of a script. Each makes the exported calls of `host` that it stands for, and prints what they answer.
+use crate::file;
+use crate::file::Fetched;
 use crate::message::at_word;
 use crate::parse::Spare;
 use crate::parse::put_at;
@@ -28,14 +30,6 @@ struct Passed {
     word: u64,
 }
 
-// What came of a file, and how many bytes it has.
-enum Fetched {
-    Unopened,
-    Unread,
-    Long,
-    Whole(usize),
-}
-
 // ---- the disk in the drive
 
 // Puts a disk in, unless it was refused.
@@ -50,30 +44,6 @@ pub(crate) fn fresh(controller: &mut Controller, table: &mut Table, content: &mu
     insert(host::disk_new_formatted(table, content), controller);
 }
 
-// Takes a file's bytes; the one that is asked for behind them tells a long file and a failed read from the end.
-fn take(file: i32, spare: &mut Spare) -> Fetched {
-    let count = io::read_full(file, spare);
-    let mut one = [0u8; 1];
-    let more = libc::read(file, &mut one);
-    if more < 0 {
-        return Fetched::Unread;
-    }
-    if 0 < more {
-        return Fetched::Long;
-    }
-    Fetched::Whole(count)
-}
-
-fn fetch(path: &[u8], spare: &mut Spare) -> Fetched {
-    let file = os::open_read(path);
-    if file < 0 {
-        return Fetched::Unopened;
-    }
-    let fetched = take(file, spare);
-    libc::close(file);
-    fetched
-}
-
 pub(crate) fn load(
     number: u64,
     path: &[u8],
@@ -82,26 +52,18 @@ pub(crate) fn load(
     content: &mut Content,
     spare: &mut Spare,
 ) {
-    match fetch(path, spare) {
-        Fetched::Unopened => at_word(
-            number,
-            path,
-            b" cannot be opened; expected: a file that may be read\n",
-        ),
-        Fetched::Unread => at_word(
-            number,
-            path,
-            b" cannot be read; expected: a file of bytes\n",
-        ),
-        Fetched::Long => at_word(
-            number,
-            path,
-            b" is too long; expected: an image of at most 2097152 bytes\n",
-        ),
+    let fetched = file::fetch(path, spare);
+    match fetched {
         Fetched::Whole(count) => {
             let loaded = host::disk_new(buffer::part(spare, 0, count), table, content);
             insert(loaded, controller);
         }
+        _ => file::unfetched(
+            number,
+            path,
+            fetched,
+            b" is too long; expected: an image of at most 2097152 bytes\n",
+        ),
     }
 }
 
@@ -252,6 +214,73 @@ pub(crate) fn write(
         return refused(passed, count);
     }
     text(b"ok\n");
+}
+
+// ---- sheets
+
+// Keeps the sheet that was written, unless it was refused.
+fn keep(number: u64, path: &[u8], written: u64, sheets: &[u8]) {
+    let count = (written / 4294967296) as usize;
+    if refusal(written) == 0 && !file::replace(path, buffer::part(sheets, 0, count)) {
+        return at_word(
+            number,
+            path,
+            b" cannot be written; expected: a file in a folder that may be written\n",
+        );
+    }
+    answer(written);
+}
+
+pub(crate) fn pause(
+    number: u64,
+    path: &[u8],
+    lent: usize,
+    controller: &Controller,
+    transfer: &Transfer,
+    spare: &mut Spare,
+) {
+    let room = buffer::part(transfer, 0, lent);
+    let written = host::floppy_write_sheet(controller, room, spare);
+    keep(number, path, written, spare);
+}
+
+// Reads a sheet over as much of the transfer buffer as is lent.
+fn read_sheet(sheet: &[u8], lent: usize, controller: &mut Controller, transfer: &mut [u8]) -> u64 {
+    let room = buffer::least(lent, transfer.len());
+    host::floppy_read_sheet(controller, &mut transfer[..room], sheet)
+}
+
+// A sheet says nothing of the drive: what was in it stays there.
+fn put_back(read: u64, present: u64, controller: &mut Controller) {
+    if refusal(read) != 0 {
+        return answer(read);
+    }
+    answer(host::floppy_set_disk(controller, (present % 256) as u8));
+}
+
+pub(crate) fn resume(
+    number: u64,
+    path: &[u8],
+    lent: usize,
+    controller: &mut Controller,
+    transfer: &mut Transfer,
+    spare: &mut Spare,
+) {
+    let fetched = file::fetch_most(path, host::floppy_sheet_length() as usize, spare);
+    match fetched {
+        Fetched::Whole(count) => {
+            let sheet = buffer::part(spare, 0, count);
+            let present = host::floppy_disk(controller);
+            let read = read_sheet(sheet, lent, controller, transfer);
+            put_back(read, present, controller);
+        }
+        _ => file::unfetched(
+            number,
+            path,
+            fetched,
+            b" is too long; expected: a sheet of at most 66610 bytes\n",
+        ),
+    }
 }
 
 // ---- what the disk holds

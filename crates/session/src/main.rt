@@ -1,5 +1,6 @@
 // Runs a script of calls on a controller and its disk, and prints what each call answers. docs/SESSION.md has the calls.
 mod call;
+mod file;
 mod input;
 mod line;
 mod message;
@@ -49,6 +50,8 @@ fn obey(
         Name::Geometry => call::geometry(controller, table, content),
         Name::Sector => call::sector(controller, table, content, spare),
         Name::Disk => call::disk(controller, table, content),
+        Name::Pause => call::pause(number, line::rest(text), lent, controller, transfer, spare),
+        Name::Resume => call::resume(number, line::rest(text), lent, controller, transfer, spare),
     }
     lent
 }

@@ -58,8 +58,10 @@ fn form(name: Name) {
         Name::Geometry => text(b"geometry"),
         Name::Sector => text(b"sector SIDE CYLINDER C H R N, each from 0 to 255"),
         Name::Disk => text(b"disk"),
+        Name::Pause => text(b"pause FILE"),
+        Name::Resume => text(b"resume FILE"),
         Name::Unknown => text(
-            b"fresh, load, out, motor, status, write, read, transfer, geometry, sector or disk",
+            b"fresh, load, out, motor, status, write, read, transfer, geometry, sector, disk, pause or resume",
         ),
     }
 }

@@ -15,6 +15,8 @@ pub enum Name {
     Geometry,
     Sector,
     Disk,
+    Pause,
+    Resume,
     Unknown,
 }
 
@@ -64,10 +66,10 @@ fn name_of(word: &[u8]) -> Name {
     if buffer::same(word, b"transfer") {
         return Name::Transfer;
     }
-    name_of_disk_call(word)
+    name_of_other(word)
 }
 
-fn name_of_disk_call(word: &[u8]) -> Name {
+fn name_of_other(word: &[u8]) -> Name {
     if buffer::same(word, b"geometry") {
         return Name::Geometry;
     }
@@ -76,6 +78,12 @@ fn name_of_disk_call(word: &[u8]) -> Name {
     }
     if buffer::same(word, b"disk") {
         return Name::Disk;
+    }
+    if buffer::same(word, b"pause") {
+        return Name::Pause;
+    }
+    if buffer::same(word, b"resume") {
+        return Name::Resume;
     }
     Name::Unknown
 }
@@ -89,6 +97,8 @@ fn fewest(name: Name) -> usize {
         Name::Read => 2,
         Name::Transfer => 2,
         Name::Sector => 7,
+        Name::Pause => 2,
+        Name::Resume => 2,
         _ => 1,
     }
 }
@@ -98,6 +108,8 @@ fn most(name: Name) -> usize {
     match name {
         Name::Load => usize::MAX,
         Name::Write => usize::MAX,
+        Name::Pause => usize::MAX,
+        Name::Resume => usize::MAX,
         Name::Unknown => usize::MAX,
         Name::Motor => 2,
         Name::Status => 2,

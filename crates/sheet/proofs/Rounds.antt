@@ -354,9 +354,9 @@ short w f = record {
 }
 
 -- Reading what was written gives the same boxes, with no disk.
-pub read-back : (w : World) → Writable w → worldIn (sheetOf w) ≡ good (changeDisk Empty w)
+pub sheet-back : (w : World) → Writable w → worldIn (sheetOf w) ≡ good (changeDisk Empty w)
 unfolding worldIn
-read-back w f =
+sheet-back w f =
     let (frame, same) = paper-in (boxesOf w) (short w f) in
     let right : wrongBoxes (changeDisk Empty w) ≡ false = unfold wrongBoxes changeDisk in f .right in
     rw (frame, same, range-back w, world-back w (f .index-fits), right)

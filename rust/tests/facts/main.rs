@@ -7,7 +7,7 @@ mod noise;
 mod refusals;
 mod saves;
 mod sessions;
-mod snapshots;
+mod sheets;
 mod views;
 
 use kafondiye::{Controller, Disk, Refusal, SectorId};
@@ -43,18 +43,22 @@ fn send(controller: &mut Controller, bytes: &[u8]) {
 fn refused(controller: &mut Controller, bytes: &[u8]) -> Refusal {
     let (last, before) = bytes.split_last().expect("there is a last byte");
     send(controller, before);
-    let old = all_bytes(controller);
+    let old = everything(controller);
     let refusal = controller
         .write_cmd(*last)
         .expect_err("the last byte is refused");
-    assert!(old == all_bytes(controller), "{refusal}");
+    assert!(old == everything(controller), "{refusal}");
     refusal
 }
 
-/// Every byte that the controller and its disk have.
-fn all_bytes(controller: &Controller) -> Vec<u8> {
-    let disk = controller.disk().map(|disk| [disk.table(), disk.data()]);
-    [controller.as_bytes(), &disk.unwrap_or_default().concat()].concat()
+/// All that a session is: the controller's sheet, its transfer room, and every byte of the disk, if one is in.
+fn everything(controller: &Controller) -> (Vec<u8>, usize, Option<Vec<u8>>) {
+    let disk = controller.disk();
+    (
+        controller.to_sheet(),
+        controller.transfer_room(),
+        disk.map(|disk| [disk.table(), disk.data()].concat()),
+    )
 }
 
 /// Reads the status.

@@ -1,5 +1,5 @@
-//! Bytes that something else has changed: they are refused, or they make a controller or disk on which every call
-//! answers.
+//! Bytes that something else has changed, or that came by chance: they are refused, or they make a controller or disk
+//! on which every call answers.
 
 use kafondiye::{Controller, Disk, Refusal, SectorId};
 
@@ -61,21 +61,92 @@ fn runs(mut controller: Controller, disk: Disk) -> Disk {
 }
 
 #[test]
-fn a_controller_with_a_changed_byte_is_1_or_runs() {
+fn a_sheet_with_a_changed_byte_is_11_or_runs() {
     let disk = small_disk();
     for controller in controllers() {
-        let own = controller.as_bytes().len() - controller.transfer_room();
-        for place in 0..own {
+        let sheet = controller.to_sheet();
+        for place in 0..sheet.len() {
             for value in VALUES {
-                let mut bytes = controller.as_bytes().to_vec();
-                bytes[place] = value;
-                match Controller::from_bytes(&bytes) {
+                let mut sheet = sheet.clone();
+                sheet[place] = value;
+                match Controller::from_sheet_with_transfer_room(&sheet, 300) {
                     Ok(changed) => drop(runs(changed, disk.clone())),
-                    Err(refusal) => assert_eq!(refusal, Refusal::BadController),
+                    Err(refusal) => assert_eq!(refusal, Refusal::BadSheet),
                 }
             }
         }
     }
+}
+
+/// Numbers by chance, the same in every run.
+struct Chance(u64);
+
+impl Chance {
+    /// A number below `end`.
+    fn below(&mut self, end: usize) -> usize {
+        self.0 ^= self.0 << 13;
+        self.0 ^= self.0 >> 7;
+        self.0 ^= self.0 << 17;
+        (self.0 >> 32) as usize % end
+    }
+
+    /// A box by chance with this many bytes, small ones if it is one byte. One of many bytes has fewer, or none, and
+    /// in rare cases one of few has a byte too many.
+    fn boxed(&mut self, most: usize) -> Vec<u8> {
+        let count = match most {
+            1 | 2 => most + usize::from(self.below(40) == 0),
+            _ => self.below(2) * self.below(most + 1),
+        };
+        let end = if most == 1 { 3 } else { 256 };
+        (0..count).map(|_| self.below(end) as u8).collect()
+    }
+
+    /// Boxes by chance in the form of a sheet.
+    fn sheet(&mut self) -> Vec<u8> {
+        let mut rest = Vec::new();
+        for (place, most) in [1, 1, 1, 2, 9, 8, 400, 1, 140].into_iter().enumerate() {
+            let bytes = self.boxed(most);
+            let wide = if place == 6 { 4 } else { 2 };
+            rest.extend(&(bytes.len() as u32).to_be_bytes()[4 - wide..]);
+            rest.extend(bytes);
+        }
+        let length = (rest.len() as u32).to_be_bytes();
+        [&[1], &length[..], &rest].concat()
+    }
+}
+
+#[test]
+fn bytes_by_chance_are_11() {
+    let mut chance = Chance(1);
+    for count in (0..80).cycle().take(8_000) {
+        let bytes: Vec<u8> = (0..count).map(|_| chance.below(256) as u8).collect();
+        let refusal = Controller::from_sheet_with_transfer_room(&bytes, 300).err();
+        assert_eq!(refusal, Some(Refusal::BadSheet));
+    }
+}
+
+#[test]
+fn boxes_by_chance_are_11_or_9_or_run_and_give_their_sheet_again() {
+    let disk = small_disk();
+    let mut chance = Chance(2);
+    let mut counts = [0; 3];
+    for _ in 0..4_000 {
+        let sheet = chance.sheet();
+        let outcome = match Controller::from_sheet_with_transfer_room(&sheet, 300) {
+            Ok(controller) => {
+                assert!(controller.to_sheet() == sheet);
+                runs(controller, disk.clone());
+                0
+            }
+            Err(Refusal::NoTransferRoom) => 1,
+            Err(refusal) => {
+                assert_eq!(refusal, Refusal::BadSheet);
+                2
+            }
+        };
+        counts[outcome] += 1;
+    }
+    assert!(counts.iter().all(|&count| count > 10), "{counts:?}");
 }
 
 #[test]

@@ -1,11 +1,11 @@
-//! Refusals: each number that a host can meet, and what can be done then. That a refused byte changes nothing is
-//! seen in `refused`, with every byte of controller and disk.
+//! Refusals: each number that a host can meet, and what can be done then; those of a sheet are in `sheets`. That a
+//! refused byte changes nothing is seen in `refused`, with the controller's sheet and every byte of the disk.
 
 use kafondiye::{Controller, Disk, Refusal, SectorId};
 
 use crate::images::{self, Track};
 use crate::{FIRST, format, fresh, pattern, read, read_data, refused, seek, send, status, with};
-use crate::{all_bytes, write_data};
+use crate::{everything, write_data};
 
 /// An extended image with one track of these sectors.
 fn image(sectors: Vec<images::Sector>) -> Vec<u8> {
@@ -23,14 +23,14 @@ fn give_room(controller: &mut Controller, room: usize) {
 }
 
 #[test]
-fn numbers_are_1_to_9_and_each_has_its_text() {
-    for number in 1..=9 {
+fn numbers_are_1_to_9_11_and_13_and_each_has_its_text() {
+    for number in (1..=9).chain([11, 13]) {
         let refusal = Refusal::from_number(number).expect("a refusal");
         assert_eq!(refusal.number(), number);
         let text = refusal.to_string();
         assert!(text.starts_with(&format!("refusal {number}: ")), "{text}");
     }
-    for number in [0, 10, 255] {
+    for number in [0, 10, 12, 14, 255] {
         assert_eq!(Refusal::from_number(number), None);
     }
 }
@@ -39,10 +39,10 @@ fn numbers_are_1_to_9_and_each_has_its_text() {
 fn a_transfer_room_below_the_data_is_1() {
     let mut controller = fresh();
     send(&mut controller, &read_data(FIRST, 1));
-    let old = all_bytes(&controller);
+    let old = everything(&controller);
     let refusal = controller.set_transfer_room(511);
     assert_eq!(refusal, Err(Refusal::BadController));
-    assert!(all_bytes(&controller) == old);
+    assert!(everything(&controller) == old);
     assert_eq!(controller.set_transfer_room(512), Ok(()));
     assert_eq!(read(&mut controller, 512), [0xe5; 512]);
 }

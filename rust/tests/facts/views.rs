@@ -2,7 +2,7 @@
 
 use kafondiye::{Controller, Disk};
 
-use crate::fresh;
+use crate::{everything, fresh};
 
 #[test]
 fn debug_texts_show_nothing_of_what_is_on_the_disk() {
@@ -17,5 +17,5 @@ fn debug_texts_show_nothing_of_what_is_on_the_disk() {
 
 #[test]
 fn a_default_controller_is_a_new_one() {
-    assert!(Controller::default().as_bytes() == Controller::new().as_bytes());
+    assert!(everything(&Controller::default()) == everything(&Controller::new()));
 }
