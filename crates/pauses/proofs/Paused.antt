@@ -179,26 +179,26 @@ module _ (k : Host) (y t b x : List ℕ) (s : Sound k) (room : transferRoom (k .
   room-fits : length (W .front .unread) ≤ transferRoom x
   room-fits = omega (arith, unread-few k s, room, no-smaller k s y)
 
-  n-sound : Sound N
-  n-sound = from-sound W t b x (writable k s .right) (writable k s .index-fits) room-fits
+  pub from-is : Sound N
+  from-is = from-sound W t b x (writable k s .right) (writable k s .index-fits) room-fits
 
-  n-seen : seen N ≡ changeDisk Empty W
-  n-seen = from-seen W t b x (writable k s .right) (writable k s .index-fits) room-fits
+  from-boxes : seen N ≡ changeDisk Empty W
+  from-boxes = from-seen W t b x (writable k s .right) (writable k s .index-fits) room-fits
 
   -- A controller that is one, given more transfer room or none; and the one that is read from its sheet over as much room, given its disk: they are
   -- alike.
   pub goes-on : Alike (withMore y k) (diskBack k N)
   goes-on =
       let f : Bool = k .floppy .regs .drive .disk in
-      let store = swapped-store N n-sound f (k .table) (k .bytes) in
+      let store = swapped-store N from-is f (k .table) (k .bytes) in
       record {
         one = more-sound k y s;
-        other = agrees N n-sound (swap f (k .table) (k .bytes)) .1;
+        other = agrees N from-is (swap f (k .table) (k .bytes)) .1;
         boxes = more-seen k y s
-            ∙ sym (sym (swap-seen N n-sound f (k .table) (k .bytes)) ∙ ap (changeDisk (slotIf f (diskOf (k .table) (k .bytes)))) n-seen ∙ back-in k);
+            ∙ sym (sym (swap-seen N from-is f (k .table) (k .bytes)) ∙ ap (changeDisk (slotIf f (diskOf (k .table) (k .bytes)))) from-boxes ∙ back-in k);
         table = sym (store .0);
         bytes = sym (store .1);
-        room = room ∙ sym (from-room W t b x (writable k s .right) (writable k s .index-fits) room-fits) ∙ swap-room N n-sound f (k .table) (k .bytes);
+        room = room ∙ sym (from-room W t b x (writable k s .right) (writable k s .index-fits) room-fits) ∙ swap-room N from-is f (k .table) (k .bytes);
       }
 
   -- So every later call answers alike, refusals included, and leaves the same store.
