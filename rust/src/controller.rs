@@ -5,10 +5,10 @@ use std::mem;
 
 use crate::{Disk, Refusal, calls};
 
-/// Why a call on a controller is not refused with 1: its bytes were made by the library, new or from a sheet, nobody
-/// else alters them, and the transfer room grows only, or is judged again. Over any calls they then stay those of a
-/// controller: `bytes-formed` and `bytes-tame` (docs/PROMISES.md, "Over any calls"). Nor is a sheet refused with 13:
-/// the buffer is as long as the longest.
+/// Why a call on a controller is not refused with 1: its bytes were made by the library, new or from a sheet
+/// (`new-formed`, `sheet-formed`), nobody else alters them, and the transfer room grows only, or is judged again. Over
+/// any calls they then stay those of a controller: `bytes-formed` and `bytes-tame` (docs/PROMISES.md, "Over any
+/// calls"). Nor is a sheet refused with 13: the buffer is as long as the longest (`bytes-short`).
 const GOOD: &str = "a controller's bytes are good: the library has made them";
 
 /// A floppy controller with one drive.

@@ -19,7 +19,7 @@ use Rattle.store.proofs.Checks.{transfer-in}
 use Rattle.registers.specs.Boxes.{fitted}
 use Rattle.registers.specs.Possible.{Possible}
 
-neither : (a b : Bool) → (a || b) ≡ false → (a ≡ false) × (b ≡ false)
+pub neither : (a b : Bool) → (a || b) ≡ false → (a ≡ false) × (b ≡ false)
 neither true b e = never (cc)
 neither false b e = (refl, e)
 

@@ -9,7 +9,7 @@ use mathlib.Core.Option.{Option}
 use lib.ListN.{length, take, drop, replicate, length-drop, length-replicate, drop-of-length-le}
 use lib.Seq.{getD-drop, drop-drop}
 use lib.Dec.{eqb, leb, ltb}
-use borrow.Author.Tests.{eq-eqb, ne-eqb, le-leb, lt-leb, leb-true, leb-false, ltb-false, eqb-true, not-true, not-false}
+use borrow.Author.Tests.{eq-eqb, ne-eqb, le-leb, lt-leb, leb-true, eqb-true, not-true, not-false}
 use Rattle.buffer.specs.Over.{over}
 use Rattle.buffer.proofs.Overs.{over-nil, over-front}
 use Rattle.fields.specs.Bytes.{byteAt}
@@ -23,7 +23,6 @@ use Rattle.store.specs.Store.{transferRoom}
 use Rattle.store.proofs.Checks.{transfer-in}
 use Rattle.store.specs.declared.answer.Done.{Done}
 use Rattle.store.specs.declared.answer.Done.the-variants as done
-use Rattle.fields.proofs.Sizes.{size-most}
 use Rattle.fields.proofs.Tests.{and-snd, never}
 use Rattle.codes.specs.declared.command.Command.{Command}
 use Rattle.codes.specs.Table.{commandOf, bytesFor}
@@ -37,6 +36,7 @@ use Rattle.layout.specs.Layout.{flagAt, seekAt}
 use Rattle.sheet.specs.declared.reading.Places.{Places}
 use Rattle.sheet.specs.Sheets.{highAt, boxAt, behind, placesOf, boxesAt, framed, Sheet, oneTo, inRange, writeIf, worldFrom, wrongWriting, wrongBoxes, sheetAt, worldIn}
 use Rattle.sheet.specs.Calls.{onZeros, pendingFor, heldFor, regsFor, takenFrom, judged, resuming, resumedAs, sheetRead}
+use Rattle.sheet.proofs.Gives.{held-few, command-few, reply-few, write-fits}
 
 -- ---- the form
 
@@ -97,8 +97,8 @@ abbrev pub IsWrite : List ℕ → Type 0
 IsWrite x = (eqb (length x) 0 || leb 5 (length x)) ≡ true
 
 -- the write that it holds
-abbrev pub held : List ℕ → Option Writing
-held x = writeIf (eqb (length x) 0) x
+abbrev pub inBox : List ℕ → Option Writing
+inBox x = writeIf (eqb (length x) 0) x
 
 abbrev pub IdIn : List ℕ → SectorId
 IdIn x = record { c = byteAt x 1; h = byteAt x 2; r = byteAt x 3; n = byteAt x 4 }
@@ -108,28 +108,28 @@ five-there x e q =
     let z : leb 5 (length x) ≡ true = subst (λ (v : Bool). (v || leb 5 (length x)) ≡ true) (ne-eqb (length x) 0 q) e in
     leb-true 5 (length x) z
 
-pub wrong-none : (x : List ℕ) → length x ≡ 0 → false ≡ wrongWriting (held x)
+pub wrong-none : (x : List ℕ) → length x ≡ 0 → false ≡ wrongWriting (inBox x)
 wrong-none x e = rw (eq-eqb (length x) 0 e) refl
 
 module _ (x : List ℕ) (q : length x ≡ 0 → ⊥) (id : SectorId) (e : id ≡ IdIn x) (n : ℕ) (f : n ≡ sizeOf (id .n)) where
   size-is : sizeOf (byteAt x 4) ≡ n
   size-is = sym (f ∙ ap (λ (i : SectorId). sizeOf (i .n)) e)
 
-  pub wrong-full : n ≤ length x - 5 → true ≡ wrongWriting (held x)
+  pub wrong-full : n ≤ length x - 5 → true ≡ wrongWriting (inBox x)
   wrong-full h =
       let t : leb (sizeOf (byteAt x 4)) (length (drop 5 x)) ≡ true = le-leb (sizeOf (byteAt x 4)) (length (drop 5 x)) (omega (arith, length-drop 5 x, size-is)) in
       rw (ne-eqb (length x) 0 q, t) refl
 
-  pub wrong-drive : (v : Bool) → length x - 5 < n → v ≡ fitted (byteAt x 0) → not v ≡ wrongWriting (held x)
+  pub wrong-drive : (v : Bool) → length x - 5 < n → v ≡ fitted (byteAt x 0) → not v ≡ wrongWriting (inBox x)
   wrong-drive v h g =
       let t : leb (sizeOf (byteAt x 4)) (length (drop 5 x)) ≡ false = lt-leb (sizeOf (byteAt x 4)) (length (drop 5 x)) (omega (arith, length-drop 5 x, size-is)) in
       rw (ne-eqb (length x) 0 q, t) (ap not g)
 
-pub pending-none : (x : List ℕ) → length x ≡ 0 → record { on = false; c1 = 0; id = record { c = 0; h = 0; r = 0; n = 0 }; taken = 0 } ≡ pendingFor (held x)
+pub pending-none : (x : List ℕ) → length x ≡ 0 → record { on = false; c1 = 0; id = record { c = 0; h = 0; r = 0; n = 0 }; taken = 0 } ≡ pendingFor (inBox x)
 pending-none x e = rw (eq-eqb (length x) 0 e) refl
 
 pub pending-some : (x : List ℕ) (id : SectorId) → (length x ≡ 0 → ⊥) → id ≡ IdIn x
-    → record { on = true; c1 = byteAt x 0; id = id; taken = length x - 5 } ≡ pendingFor (held x)
+    → record { on = true; c1 = byteAt x 0; id = id; taken = length x - 5 } ≡ pendingFor (inBox x)
 pending-some x id q e = rw (ne-eqb (length x) 0 q) (λ i. record { on = true; c1 = byteAt x 0; id = e i; taken = sym (length-drop 5 x) i })
 
 -- the held bytes: zeros, and over them what stands behind c1 and ID
@@ -145,7 +145,7 @@ tail-fits x y h f e k l g =
     let n : length f ≡ mostHeld = ap length (g ∙ zeros-laid h l) ∙ length-replicate {A = ℕ} mostHeld 0 in
     omega (arith, z, n)
 
-pub held-laid : (x y h f b : List ℕ) → length h ≡ mostHeld → f ≡ over h 0 (replicate mostHeld 0) → y ≡ drop 5 x → b ≡ over f 0 y → b ≡ heldFor (held x)
+pub held-laid : (x y h f b : List ℕ) → length h ≡ mostHeld → f ≡ over h 0 (replicate mostHeld 0) → y ≡ drop 5 x → b ≡ over f 0 y → b ≡ heldFor (inBox x)
 held-laid x y h f b l e g q =
     let z : b ≡ over (replicate mostHeld 0) 0 (drop 5 x) = q ∙ (λ i. over ((e ∙ zeros-laid h l) i) 0 (g i)) in
     z ∙ go (eqb (length x) 0) refl
@@ -158,33 +158,15 @@ held-laid x y h f b l e g q =
 
 -- ---- boxes that are right
 
-or-fst : (a b : Bool) → (a || b) ≡ false → a ≡ false
-or-fst true b e = never (cc)
-or-fst false b e = refl
-
--- the tests of four, one after another
-none-of : (a b c d : Bool) → (a || (b || (c || d))) ≡ false → (a ≡ false) × ((b ≡ false) × ((c ≡ false) × (d ≡ false)))
-none-of false false false false e = (refl, (refl, (refl, refl)))
-none-of true b c d e = never (cc)
-none-of false true c d e = never (cc)
-none-of false false true d e = never (cc)
-none-of false false false true e = never (cc)
-
--- what the boxes of a sheet are that is accepted
-pub record Right (p : Sheet) : Type 0 where
-  pub reply : length (p .reply) ≤ 7
-  pub command : length (p .command) < 9
-  pub few : length (p .write) < 5 + mostHeld
-
-write-few : (x : List ℕ) → wrongWriting (held x) ≡ false → length x < 5 + mostHeld
+-- the box of a write that is one is no longer than c1, ID and what can be held
+write-few : (x : List ℕ) → wrongWriting (inBox x) ≡ false → length x ≤ 5 + mostHeld
 write-few x e = go (eqb (length x) 0) refl
   where
-    go : (v : Bool) → eqb (length x) 0 ≡ v → length x < 5 + mostHeld
+    go : (v : Bool) → eqb (length x) 0 ≡ v → length x ≤ 5 + mostHeld
     go true t = omega (arith, eqb-true (length x) 0 t)
     go false t =
-        let z : wrongWriting (writeIf false x) ≡ false = subst (λ (v : Bool). wrongWriting (writeIf v x) ≡ false) t e in
-        let f : leb (sizeOf (byteAt x 4)) (length (drop 5 x)) ≡ false = or-fst (leb (sizeOf (byteAt x 4)) (length (drop 5 x))) (not (fitted (byteAt x 0))) z in
-        omega (arith, leb-false (sizeOf (byteAt x 4)) (length (drop 5 x)) f, size-most (byteAt x 4), length-drop 5 x)
+        let w : Writing = record { c1 = byteAt x 0; id = IdIn x; held = drop 5 x } in
+        omega (arith, held-few w (subst (λ (v : Bool). wrongWriting (writeIf v x) ≡ false) t e), length-drop 5 x)
 
 range-write : (p : Sheet) → inRange p ≡ true → IsWrite (p .write)
 unfolding inRange
@@ -193,17 +175,6 @@ range-write p e =
     let u : Bool = oneTo 2 (p .seek) && (eqb (length (p .index)) 2 && t) in
     let z = and-snd (oneTo 2 (p .seek)) (eqb (length (p .index)) 2 && t) (and-snd (eqb (length (p .cylinder)) 1) u (and-snd (oneTo 1 (p .motor)) (eqb (length (p .cylinder)) 1 && u) e)) in
     and-snd (eqb (length (p .lost)) 1) (eqb (length (p .write)) 0 || leb 5 (length (p .write))) (and-snd (eqb (length (p .index)) 2) t z)
-
-pub right-of : (p : Sheet) → wrongBoxes (worldFrom p) ≡ false → Right p
-unfolding wrongBoxes worldFrom
-right-of p w =
-    let n : ℕ = bytesFor (commandOf (byteAt (p .command) 0)) in
-    let a = none-of (ltb 7 (length (p .reply))) (leb n (length (p .command))) (ltb 2 (byteAt (p .lost) 0)) (wrongWriting (held (p .write))) w in
-    record {
-      reply = ltb-false 7 (length (p .reply)) (a .0);
-      command = omega (arith, leb-false n (length (p .command)) (a .1 .0), bytes-range (commandOf (byteAt (p .command) 0)) .1);
-      few = write-few (p .write) (a .1 .1 .1);
-    }
 
 -- ---- the command
 
@@ -238,30 +209,30 @@ module _ (s : List ℕ) (p : Places) where
   pub right-write : (x : List ℕ) → x ≡ boxAt 2 s (p .write) → inRange (boxesAt s p) ≡ true → IsWrite x
   right-write x e q = subst IsWrite (sym e) (range-write (boxesAt s p) q)
 
-  pub wrong-is : (a b c d : List ℕ) (n : ℕ) (u v : Bool)
+  pub wrong-tests : (a b c d : List ℕ) (n : ℕ) (u v : Bool)
       → a ≡ boxAt 2 s (p .reply) → b ≡ boxAt 2 s (p .command) → c ≡ boxAt 2 s (p .lost) → d ≡ boxAt 2 s (p .write)
-      → u ≡ leb (bytesFor (commandOf (byteAt b 0))) (length b) → n ≡ byteAt c 0 → v ≡ wrongWriting (held d)
+      → u ≡ leb (bytesFor (commandOf (byteAt b 0))) (length b) → n ≡ byteAt c 0 → v ≡ wrongWriting (inBox d)
       → (ltb 7 (length a) || (u || (ltb 2 n || v))) ≡ wrongBoxes (worldFrom (boxesAt s p))
   unfolding wrongBoxes worldFrom
-  wrong-is a b c d n u v ea eb ec ed eu en ev =
+  wrong-tests a b c d n u v ea eb ec ed eu en ev =
       let u′ = eu ∙ ap (λ (x : List ℕ). leb (bytesFor (commandOf (byteAt x 0))) (length x)) eb in
       let n′ = en ∙ ap (λ (x : List ℕ). byteAt x 0) ec in
-      let v′ = ev ∙ ap (λ (x : List ℕ). wrongWriting (held x)) ed in
+      let v′ = ev ∙ ap (λ (x : List ℕ). wrongWriting (inBox x)) ed in
       λ i. ltb 7 (length (ea i)) || (u′ i || (ltb 2 (n′ i) || v′ i))
 
   -- what the registers are made of, where the boxes are right
   module _ (w : wrongBoxes (worldFrom (boxesAt s p)) ≡ false) where
-    r : Right (boxesAt s p)
-    r = right-of (boxesAt s p) w
-
     pub command-fits : (x : List ℕ) → x ≡ boxAt 2 s (p .command) → length x ≤ 9
-    command-fits x e = omega (arith, r .command, ap length e)
+    unfolding worldFrom
+    command-fits x e = omega (arith, command-few (worldFrom (boxesAt s p)) w, ap length e)
 
     pub reply-fits : (x : List ℕ) → x ≡ boxAt 2 s (p .reply) → length x ≤ 7
-    reply-fits x e = omega (arith, r .reply, ap length e)
+    unfolding worldFrom
+    reply-fits x e = omega (arith, reply-few (worldFrom (boxesAt s p)) w, ap length e)
 
-    pub write-fits : (x : List ℕ) → x ≡ boxAt 2 s (p .write) → length x ≤ 5 + mostHeld
-    write-fits x e = omega (arith, r .few, ap length e)
+    pub write-long : (x : List ℕ) → x ≡ boxAt 2 s (p .write) → length x ≤ 5 + mostHeld
+    unfolding worldFrom
+    write-long x e = omega (arith, write-few (boxAt 2 s (p .write)) (write-fits (worldFrom (boxesAt s p)) w), ap length e)
 
     -- and that their lengths fit the numbers
     pub command-small : (x : List ℕ) → x ≡ boxAt 2 s (p .command) → length x < 256
@@ -271,7 +242,7 @@ module _ (s : List ℕ) (p : Places) where
     reply-small x e = omega (arith, reply-fits x e)
 
     pub write-small : (x : List ℕ) → x ≡ boxAt 2 s (p .write) → length x < 65536
-    write-small x e = omega (arith, write-fits x e)
+    write-small x e = omega (arith, write-long x e)
 
   pub unread-small : (x : List ℕ) → x ≡ boxAt 4 s (p .unread) → length (boxAt 4 s (p .unread)) ≤ mostTransfer → length x < 4294967296
   unread-small x e h = omega (arith, h, ap length e)
@@ -285,7 +256,7 @@ module _ (s : List ℕ) (p : Places) where
   pub regs-are : (command reply unread write lc lr : List ℕ) (n m k : ℕ) (f : Bool) (pending : Pending) (drive : Drive)
       → command ≡ boxAt 2 s (p .command) → reply ≡ boxAt 2 s (p .reply) → unread ≡ boxAt 4 s (p .unread) → lc ≡ onZeros 9 command → lr ≡ onZeros 7 reply
       → n ≡ byteAt (boxAt 2 s (p .lost)) 0 → m ≡ byteAt (boxAt 2 s (p .motor)) 0 → f ≡ flagAt m → k ≡ highAt 2 (boxAt 2 s (p .index)) 0
-      → write ≡ boxAt 2 s (p .write) → pending ≡ pendingFor (held write)
+      → write ≡ boxAt 2 s (p .write) → pending ≡ pendingFor (inBox write)
       → drive ≡ record { cylinder = byteAt (boxAt 2 s (p .cylinder)) 0; seek = seekAt (byteAt (boxAt 2 s (p .seek)) 0); disk = false }
       → record {
         command = lc;
@@ -314,7 +285,7 @@ module _ (s : List ℕ) (p : Places) where
         lost = zn i;
         motor = (zf ∙ ap flagAt zm) i;
         index = zk i;
-        write = (zp ∙ ap (λ (x : List ℕ). pendingFor (held x)) ew) i;
+        write = (zp ∙ ap (λ (x : List ℕ). pendingFor (inBox x)) ew) i;
         drive = zd i;
       }
 
@@ -420,7 +391,7 @@ module _ (s x : List ℕ) (p : Places) (e : p ≡ placesOf s) where
     t = taken-good (sym ed ∙ eg)
 
     pub taken-write : (y : List ℕ) → y ≡ boxAt 2 s (p .write) → length y ≤ 5 + mostHeld
-    taken-write y q = write-fits s p (t .right) y q
+    taken-write y q = write-long s p (t .right) y q
 
     pub taken-unread : (y : List ℕ) → y ≡ boxAt 4 s (p .unread) → 0 + length y ≤ length x
     taken-unread y q = omega (arith, t .room, ap length q, transfer-in x .0)
@@ -435,11 +406,11 @@ module _ (s x : List ℕ) (p : Places) (e : p ≡ placesOf s) where
     taken-few = omega (arith, t .room, transfer-in x .1)
 
     -- all that is left where the sheet is good
-    pub read-good : (r a : Regs) (h g y z l : List ℕ) → y ≡ boxAt 2 s (p .write) → g ≡ heldFor (held y) → z ≡ boxAt 4 s (p .unread) → l ≡ over x 0 z
+    pub read-good : (r a : Regs) (h g y z l : List ℕ) → y ≡ boxAt 2 s (p .write) → g ≡ heldFor (inBox y) → z ≡ boxAt 4 s (p .unread) → l ≡ over x 0 z
         → a ≡ regsFor (worldFrom (boxesAt s p)) → resuming (record { done = d; regs = a }) g l ≡ sheetRead r h s x
     unfolding sheetRead worldFrom
     read-good r a h g y z l ey eg′ ez el ea =
-        (λ i. resuming (record { done = eg i; regs = ea i }) ((eg′ ∙ ap (λ (v : List ℕ). heldFor (held v)) ey) i) ((el ∙ ap (over x 0) ez) i))
+        (λ i. resuming (record { done = eg i; regs = ea i }) ((eg′ ∙ ap (λ (v : List ℕ). heldFor (inBox v)) ey) i) ((el ∙ ap (over x 0) ez) i))
         ∙ ap (λ (v : Result World). resumedAs v r h x) (sym (t .is))
 
 -- and where it is refused

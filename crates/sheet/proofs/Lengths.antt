@@ -23,17 +23,13 @@ use Rattle.registers.specs.declared.regs.Seek.the-variants.{Idle}
 use Rattle.registers.specs.Boxes.{Empty, Writing, World}
 use Rattle.registers.specs.View.{writingIf, insideOf, frontOf, impossibleIn}
 use Rattle.registers.specs.Possible.{Possible}
-use Rattle.registers.proofs.Numbers.{possible, possible-in, until-in, until-long, count-few, taken-few}
+use Rattle.registers.proofs.Numbers.{neither, possible, possible-in, until-in, until-long, count-few, taken-few}
 use Rattle.sending.specs.Calls.{impossibleWith}
 use Rattle.sheet.specs.Sheets.{boxFor, writeBox, boxesOf, boxesFor, paperOf, sheetOf, wrongWriting, wrongBoxes}
 use Rattle.sheet.specs.Calls.{longestSheet, boxesSeen}
 use Rattle.sheet.proofs.Gives.{seen-right, command-few, reply-few, write-fits}
 
 -- ---- numbers that are possible
-
-neither : (a b : Bool) → (a || b) ≡ false → (a ≡ false) × (b ≡ false)
-neither true b e = never (cc)
-neither false b e = (refl, e)
 
 module _ (r : Regs) (h x : List ℕ) where
   -- held bytes of another length are not

@@ -1,4 +1,4 @@
-use Rattle.sheet.proofs.Judges.{right-write, wrong-is}
+use Rattle.sheet.proofs.Judges.{right-write, wrong-tests}
 use borrow.Author.Needs.{needs}
 use Rattle.sheet.proofs.reading.wrong_boxes.Statement.{statement}
 use Rattle.sheet.proofs.reading.wrong_boxes.Tie as tie
@@ -25,7 +25,7 @@ wrong-write-requires : tie.Need-wrong-write-requires
 wrong-write-requires c κs = search (needs, right-write)
 
 returns : tie.Need-returns
-returns c = search (needs, wrong-is)
+returns c = search (needs, wrong-tests)
 
 pub wrong-boxes-spec : {M : Type 1} → statement M
 wrong-boxes-spec =
