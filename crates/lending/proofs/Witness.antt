@@ -41,7 +41,7 @@ use Rattle.lending.proofs.Demands.{Stands, stands, machine-words, save-
 
 -- ---- the bytes of the new controller are bytes
 
-small : List ℕ → Bool
+unfoldable pub small : List ℕ → Bool
 small [] = true
 small (x ∷ l) = cond (ltb x 256) (small l) false
 
@@ -49,7 +49,7 @@ small-on : (v w : Bool) → cond v w false ≡ true → (v ≡ true) × (w ≡ t
 small-on true w e = (refl, e)
 small-on false w e = never (cc)
 
-small-at : (l : List ℕ) → small l ≡ true → (k : ℕ) → byteAt l k < 256
+pub small-at : (l : List ℕ) → small l ≡ true → (k : ℕ) → byteAt l k < 256
 unfolding small
 small-at [] e k = omega arith
 small-at (x ∷ l) e zero = ltb-true x 256 (small-on (ltb x 256) (small l) e .0)

@@ -3,7 +3,7 @@ use mathlib.Core.Path.{_≡_, refl, sym, ap, subst, _∙_}
 use Prim.Native.Nat.{ℕ, _≤_, _<_}
 use native.Mathlib.Omega.{arith}
 use mathlib.Core.Bool.{Bool, false}
-use mathlib.Core.List.{List, _++_}
+use mathlib.Core.List.{List, [], _++_, append-nil}
 use lib.ListN.{length}
 use lib.Seq.{slice, length-slice}
 use borrow.Author.Tests.{eq-eqb, le-leb}
@@ -205,6 +205,16 @@ module _ (k : Host) (y t b x : List ℕ) (s : Sound k) (room : transferRoom (k .
   pub goes-on-calls : (es : List Event)
       → (run called es (withMore y k) .answers ≡ run called es (diskBack k N) .answers) × Alike (run called es (withMore y k) .end) (run called es (diskBack k N) .end)
   goes-on-calls es = alike-calls es (withMore y k) (diskBack k N) goes-on
+
+-- With no more room than was lent, as it stands.
+pub goes-on-same : (k : Host) (t b x : List ℕ) → Sound k → transferRoom (k .transfer) ≡ transferRoom x → (es : List Event)
+    → let j : Host = diskBack k (hostFrom (seen k) t b x) in (run called es k .answers ≡ run called es j .answers) × Alike (run called es k .end) (run called es j .end)
+goes-on-same k t b x s room es =
+    let e : k .transfer ++ [] ≡ k .transfer = append-nil (k .transfer) in
+    let j : Host = diskBack k (hostFrom (seen k) t b x) in
+    let same : withMore [] k ≡ k = λ i. record { floppy = k .floppy; table = k .table; bytes = k .bytes; transfer = e i } in
+    subst (λ (m : Host). (run called es m .answers ≡ run called es j .answers) × Alike (run called es m .end) (run called es j .end)) same
+    (goes-on-calls k [] t b x s (ap transferRoom e ∙ room) es)
 
 -- ---- demands 2 and 3 from a sheet
 

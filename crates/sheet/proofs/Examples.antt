@@ -11,7 +11,7 @@ use Rattle.registers.specs.declared.regs.Seek.the-variants.{Done}
 use Rattle.sheet.specs.Sheets.{highAt, boxesOf, boxesFor, paperOf, sheetOf, behind, boxAt, placesOf, sheetAt, framed, inRange, worldFrom, wrongBoxes, worldIn}
 
 -- a new controller
-new-sheet : sheetOf newWorld
+pub new-sheet : sheetOf newWorld
     ≡ 1 ∷ 0 ∷ 0 ∷ 0 ∷ 26
     ∷ 0 ∷ 1 ∷ 0
     ∷ 0 ∷ 1 ∷ 0
@@ -27,7 +27,7 @@ unfolding newWorld paperOf boxesOf boxesFor
 new-sheet = refl
 
 -- a controller with something in every box
-busy : World
+unfoldable pub busy : World
 busy = record {
   inside = record {
     motor = true;
@@ -39,7 +39,7 @@ busy = record {
   front = record { seek = Done; reply = 64 ∷ []; unread = 10 ∷ 20 ∷ 30 ∷ []; lost = 2 };
 }
 
-busy-sheet : sheetOf busy
+pub busy-sheet : sheetOf busy
     ≡ 1 ∷ 0 ∷ 0 ∷ 0 ∷ 39
     ∷ 0 ∷ 1 ∷ 1
     ∷ 0 ∷ 1 ∷ 39
@@ -55,10 +55,10 @@ unfolding paperOf boxesOf boxesFor busy
 busy-sheet = refl
 
 -- each is read back
-new-back : worldIn (sheetOf newWorld) ≡ good newWorld
+pub new-back : worldIn (sheetOf newWorld) ≡ good newWorld
 unfolding newWorld paperOf boxesOf boxesFor worldIn framed placesOf behind highAt sheetAt boxAt inRange worldFrom wrongBoxes commandOf commandBy rows maskRows
 new-back = refl
 
-busy-back : worldIn (sheetOf busy) ≡ good busy
+pub busy-back : worldIn (sheetOf busy) ≡ good busy
 unfolding busy paperOf boxesOf boxesFor worldIn framed placesOf behind highAt sheetAt boxAt inRange worldFrom wrongBoxes commandOf commandBy rows maskRows sizeOf
 busy-back = refl

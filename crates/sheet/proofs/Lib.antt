@@ -4,4 +4,4 @@ pub mod Lengths
 pub mod Rounds
 mod Lays
 mod Judges
-mod Examples
+pub mod Examples
