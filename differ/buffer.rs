@@ -46,6 +46,12 @@ impl Buffer {
         self.bytes.len()
     }
 
+    /// Fills all of it with other noise.
+    pub fn renew(&mut self, chance: &mut Chance) {
+        self.bytes = chance.bytes(self.bytes.len());
+        self.expected.copy_from_slice(&self.bytes);
+    }
+
     /// These bytes should now be laid over the start.
     pub fn expect(&mut self, bytes: &[u8]) {
         self.expected[..bytes.len()].copy_from_slice(bytes);

@@ -150,11 +150,12 @@ fn checked(seed: u64, watch: &mut Watch) -> Checked {
 
 /// Whether the library tells the lengths that are written down.
 fn lengths_are_right() -> bool {
-    let written = (host::CONTROLLER as u64, host::TABLE as u64);
-    let told = host::lengths();
+    let written = [host::CONTROLLER, host::TABLE, host::SHEET].map(|length| length as u64);
+    let (controller, table) = host::lengths();
+    let told = [controller, table, host::sheet_length()];
     if told != written {
         tell(format_args!(
-            "lengths of controller and table: expected {written:?}, library {told:?}"
+            "lengths of controller, table and longest sheet: expected {written:?}, library {told:?}"
         ));
     }
     told == written

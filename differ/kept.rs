@@ -17,6 +17,9 @@ use crate::{cases, loads, watch};
 /// The one image for which the Rust takes about 3 GB, which is left out.
 const LARGE: &str = "many-sectors-16581375";
 
+/// The number of the transfer buffer.
+const TRANSFER: u16 = 3;
+
 /// How often each image is loaded, with rooms by chance.
 const LOADS: u64 = 4;
 
@@ -64,7 +67,7 @@ fn run_session(session: &Session, watch: &mut Watch) -> Checked {
     let transfer = Buffer::new(MOST_TRANSFER, 9, &mut chance);
     let mut pair = Pair::new(disks, transfer, &mut chance, watch)?;
     let mut calls = session.calls().iter();
-    let done = calls.try_for_each(|call| run_call(call, &mut pair));
+    let done = calls.try_for_each(|call| run_call(call, &mut pair, &mut chance));
     let done = done.and_then(|()| pair.finish());
     done.map_err(|difference| difference.with(pair.states()))
 }
@@ -84,7 +87,7 @@ fn kept(image: Option<&[u8]>, chance: &mut Chance, watch: &mut Watch) -> Checked
     Ok(Kept { rust, store })
 }
 
-fn run_call(call: &Call, pair: &mut Pair) -> Checked {
+fn run_call(call: &Call, pair: &mut Pair, chance: &mut Chance) -> Checked {
     match call {
         Call::Put(Slot::Empty) => pair.put(None, 0),
         Call::Put(Slot::A) => pair.put(Some(0), 1),
@@ -97,6 +100,15 @@ fn run_call(call: &Call, pair: &mut Pair) -> Checked {
         }
         Call::Ask => pair.ask(),
         Call::Boxes => pair.compare_data(false),
+        Call::Sheet => pair.pause(chance),
+        Call::Resume(sheet) => pair.resume(sheet, chance).map(|_| ()),
+        Call::Lend {
+            buffer: TRANSFER,
+            length,
+        } => {
+            pair.transfer.lend(*length as usize);
+            Ok(())
+        }
         Call::Lend { .. } | Call::Table { .. } | Call::Number { .. } => {
             Err(Difference::new(call, "a call that the Rust has", "another"))
         }

@@ -18,6 +18,8 @@ mod noise;
 #[allow(dead_code)]
 #[path = "../oracle/session.rs"]
 mod session;
+#[path = "../oracle/sheet.rs"]
+mod sheet;
 #[allow(dead_code)]
 #[path = "../oracle/stream.rs"]
 mod stream;
@@ -36,6 +38,7 @@ mod made;
 mod pair;
 mod rules;
 mod sessions;
+mod sheets;
 mod store;
 mod view;
 mod watch;

@@ -2,6 +2,7 @@
 //! both, and answers and boxes are compared.
 
 mod refused;
+mod sheets;
 
 use std::fmt;
 
@@ -31,7 +32,7 @@ pub struct Pair<'a> {
     disks: Vec<Kept>,
     slot: Option<usize>,
     pub transfer: Buffer,
-    /// How many bytes the last Read Data laid in the transfer buffer.
+    /// How many bytes the last Read Data or the last sheet laid in the transfer buffer.
     filled: usize,
     watch: &'a mut Watch,
 }
@@ -68,9 +69,14 @@ impl Pair<'_> {
         &self.rust
     }
 
-    /// How many bytes the last Read Data laid in the transfer buffer.
+    /// How many bytes the last Read Data or the last sheet laid in the transfer buffer.
     pub fn filled(&self) -> usize {
         self.filled
+    }
+
+    /// Which disk is in the drive.
+    pub fn slot(&self) -> Option<usize> {
+        self.slot
     }
 
     /// Tells what happens beside the calls, where each call is told.
@@ -133,15 +139,21 @@ impl Pair<'_> {
         self.controller_is(&before, "ask")
     }
 
-    /// Takes the disk out of the drive, and puts another in, or none.
-    pub fn put(&mut self, slot: Option<usize>, present: u8) -> Checked {
+    /// Takes the disk out of the Rust's drive.
+    fn take_out(&mut self) -> Checked {
         let out = self.rust.take_disk();
-        if let Some(old) = self.slot {
+        if let Some(old) = self.slot.take() {
             self.disks[old].rust = out;
             self.disks[old]
                 .store
                 .compare("a disk taken out", self.watch)?;
         }
+        Ok(())
+    }
+
+    /// Takes the disk out of the drive, and puts another in, or none.
+    pub fn put(&mut self, slot: Option<usize>, present: u8) -> Checked {
+        self.take_out()?;
         self.slot = slot;
         let disk = slot.and_then(|number| self.disks[number].rust.take());
         self.rust.set_disk(disk);

@@ -80,7 +80,7 @@ pub struct Lent {
     pub good_table: bool,
     pub data: usize,
     pub transfer: usize,
-    /// How many bytes the last Read Data laid in the transfer buffer.
+    /// How many bytes the last Read Data or the last sheet laid in the transfer buffer.
     pub filled: usize,
 }
 

@@ -1,6 +1,7 @@
 //! A case of sessions: calls by chance on both controllers, with several disks.
 
 mod commands;
+mod pauses;
 mod rooms;
 mod turns;
 
@@ -18,12 +19,14 @@ use crate::watch::{Checked, Watch};
 
 /// The kinds of sessions: one that lets the Read ID index wrap, one with reads as
 /// long as the transfer room, with a disk nearly full of bytes, with disks nearly
-/// full of tracks or sectors, and with any bytes. The others are traffic.
+/// full of tracks or sectors, with any bytes, and that begin with a sheet made by
+/// chance. The others are traffic.
 const WRAP: u8 = 0;
 const LONG: u8 = 1;
 const HEAVY: u8 = 2;
 const FULL: RangeInclusive<u8> = 3..=7;
 const NOISE: RangeInclusive<u8> = 8..=39;
+const SHEET: RangeInclusive<u8> = 40..=63;
 
 /// Runs the case of this seed.
 pub fn run(seed: u64, kind: u8, watch: &mut Watch) -> Checked {
@@ -49,9 +52,13 @@ fn play(pair: &mut Pair, kind: u8, chance: &mut Chance) -> Checked {
         _ if chance.once_in(8) => {}
         _ => pair.put(Some(0), chance.byte())?,
     }
+    if SHEET.contains(&kind) {
+        pauses::take_up(pair, chance)?;
+    }
     let turn = match kind {
         _ if FULL.contains(&kind) => turns::formats,
         _ if NOISE.contains(&kind) => turns::noise,
+        _ if SHEET.contains(&kind) => pauses::turn,
         _ => turns::traffic,
     };
     for _ in 0..20 + chance.below(180) {
@@ -69,9 +76,12 @@ fn begin_with_ids(pair: &mut Pair, chance: &mut Chance) -> Checked {
     Ok(())
 }
 
-/// A Read Data of exactly the largest transfer room, and one of a sector more.
+/// The longest sheet; then a Read Data of exactly the largest transfer room, and one of
+/// a sector more.
 fn begin_with_long_reads(pair: &mut Pair, chance: &mut Chance) -> Checked {
+    pauses::longest(pair, chance)?;
     pair.put(Some(0), 1)?;
+    commands::send_all(pair, &[0, 0], chance)?;
     commands::send_all(pair, &[0x4d, 0, 3, 66, 0x2a, chance.byte()], chance)?;
     for eot in [64, 65] {
         commands::send_all(pair, &[0x46, 0, 0, 0, 1, 3, eot, 0x2a, 0xff], chance)?;

@@ -1,4 +1,4 @@
-// Appended to the copy of floppy.rs: what its private fields hold.
+// Appended to the copy of floppy.rs: what its private fields hold, and a way to set them.
 
 impl Floppy {
     /// How many bytes of data and of the reply are unread.
@@ -26,9 +26,27 @@ impl Floppy {
                 .map(|(c1, id, left, held)| (*c1, id, *left, held.as_slice())),
         }
     }
+
+    /// Sets every private field but the disk.
+    pub fn set_boxes(&mut self, motor: bool, cylinder: u8, boxes: &Boxes<'_>) {
+        self.motor = motor;
+        self.cylinder = cylinder;
+        self.int_seek_completed = match boxes.seek {
+            0 => IntStatus::Idle,
+            1 => IntStatus::Running,
+            _ => IntStatus::Done,
+        };
+        self.lost_read = boxes.lost;
+        self.read_id_idx = boxes.index;
+        self.cmd = boxes.command.to_vec();
+        self.reply = Cursor::new(boxes.reply.to_vec());
+        self.data = Cursor::new(boxes.data.to_vec());
+        let write = boxes.write;
+        self.data_in = write.map(|(c1, id, left, held)| (c1, id.clone(), left, held.to_vec()));
+    }
 }
 
-/// The private fields, to be read only.
+/// The private fields, but motor, cylinder and disk.
 pub struct Boxes<'a> {
     /// 0 idle, 1 running, 2 done.
     pub seek: u8,

@@ -22,6 +22,7 @@ mod script;
 mod scripts;
 mod session;
 mod sessions;
+mod sheet;
 mod shown;
 mod stream;
 

@@ -47,6 +47,10 @@ pub enum Call {
     Table { place: u16, byte: u8 },
     /// A number of the controller is changed.
     Number { which: u16, value: u32 },
+    /// The controller is written out as a sheet and read back from it.
+    Sheet,
+    /// These bytes are read as a sheet.
+    Resume(Vec<u8>),
 }
 
 impl Call {
@@ -62,6 +66,8 @@ impl Call {
             Call::Lend { buffer, length } => (8, *buffer, length.to_le_bytes().to_vec()),
             Call::Table { place, byte } => (9, *place, vec![*byte]),
             Call::Number { which, value } => (10, *which, value.to_le_bytes().to_vec()),
+            Call::Sheet => (11, 0, Vec::new()),
+            Call::Resume(sheet) => (12, 0, sheet.clone()),
         };
         let length = bytes.len() as u16;
         let number = number.to_le_bytes();
@@ -92,6 +98,8 @@ impl Call {
                 which,
                 value: value()?,
             },
+            (11, 0, []) => Call::Sheet,
+            (12, 0, _) => Call::Resume(bytes.to_vec()),
             _ => return None,
         })
     }
@@ -115,6 +123,8 @@ impl fmt::Display for Call {
             Call::Lend { buffer, length } => write!(f, "lend {buffer} {length}"),
             Call::Table { place, byte } => write!(f, "table {place} {byte}"),
             Call::Number { which, value } => write!(f, "number {which} {value}"),
+            Call::Sheet => write!(f, "sheet"),
+            Call::Resume(sheet) => write!(f, "resume {}{}", sheet.len(), Shown(sheet)),
         }
     }
 }

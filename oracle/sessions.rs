@@ -3,6 +3,7 @@
 
 mod changes;
 mod commands;
+mod damaged;
 mod data;
 mod examples;
 mod formats;
@@ -11,6 +12,7 @@ mod lost;
 mod noise;
 mod reads;
 mod refusals;
+mod sheets;
 mod status;
 mod traffic;
 mod writes;
@@ -85,6 +87,8 @@ pub fn list() -> Vec<Session> {
     changes::add(&mut list);
     noise::add(&mut list);
     traffic::add(&mut list);
+    sheets::add(&mut list);
+    damaged::add(&mut list);
     refusals::add(&mut list);
     list.sessions
 }

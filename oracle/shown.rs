@@ -5,19 +5,25 @@ use std::io::{self, Write};
 use raze::disk::Disk;
 use raze::floppy::{Boxes, Floppy};
 
-use crate::capacities::{Totals, transfer_refusal};
+use crate::capacities::{MOST_TRANSFER, Totals, transfer_refusal};
 use crate::session::{Call, Hex, Session, Shown, Slot};
+use crate::sheet::Sheet;
 use crate::{Failure, dump, load};
 
 /// A disk with more tracks or sectors is not printed whole.
 const MOST_PRINTED: usize = 40;
 
-/// The controller, and the disks that are not in its drive.
+/// The number of the transfer buffer.
+const TRANSFER: u16 = 3;
+
+/// The controller, the disks that are not in its drive, and how many bytes of the
+/// transfer buffer are lent, which only counts where a sheet is read.
 struct Bench {
     floppy: Floppy,
     slot: Slot,
     a: Option<Disk>,
     b: Option<Disk>,
+    transfer: usize,
 }
 
 /// Prints what each call of the session answers, and what is left in the end.
@@ -28,6 +34,7 @@ pub fn print(session: &Session, out: &mut impl Write) -> Result<(), Failure> {
         slot: Slot::Empty,
         a: Some(load::disk(session.name(), a)?),
         b: Some(load::disk(session.name(), b)?),
+        transfer: MOST_TRANSFER,
     };
     writeln!(out, "session {}", session.name())?;
     for call in session.calls() {
@@ -43,6 +50,9 @@ impl Bench {
     /// Does one call, and prints its answer behind it; or says why the Rust cannot
     /// be asked.
     fn call(&mut self, call: &Call, out: &mut impl Write) -> io::Result<Result<(), String>> {
+        if self.transfer < MOST_TRANSFER && is_lent_transfer(call) {
+            return Ok(Err("not all of the transfer buffer is lent".to_owned()));
+        }
         match call {
             Call::Put(slot) => self.put(*slot),
             Call::Motor(on) => self.floppy.set_motor(*on),
@@ -57,6 +67,18 @@ impl Bench {
             Call::Send { times, bytes } => return Ok(self.send(*times, bytes)),
             Call::Ask => self.print_asked(out)?,
             Call::Boxes => print_boxes(&self.floppy.boxes(), out)?,
+            Call::Sheet => {
+                let sheet = Sheet::of(&self.floppy).bytes();
+                write!(out, " {}{}", sheet.len(), Shown(&sheet))?;
+            }
+            Call::Resume(sheet) => match self.resume(sheet) {
+                Ok(()) => write!(out, " done")?,
+                Err(number) => write!(out, " refused {number}")?,
+            },
+            Call::Lend {
+                buffer: TRANSFER,
+                length,
+            } => self.transfer = *length as usize,
             Call::Lend { .. } | Call::Table { .. } | Call::Number { .. } => {
                 return Ok(Err("the Rust has nothing of the kind".to_owned()));
             }
@@ -93,6 +115,15 @@ impl Bench {
         Ok(())
     }
 
+    /// Takes up the boxes of a sheet, with no disk in the drive; or answers why it is
+    /// refused.
+    fn resume(&mut self, sheet: &[u8]) -> Result<(), u8> {
+        let sheet = Sheet::read(sheet, self.transfer)?;
+        self.put(Slot::Empty);
+        sheet.set(&mut self.floppy);
+        Ok(())
+    }
+
     /// The refusal number of what the disk and the transfer buffer now hold.
     fn refusal(&self) -> Option<u8> {
         let (data, _) = self.floppy.unread();
@@ -125,6 +156,12 @@ impl Bench {
         }
         Ok(())
     }
+}
+
+/// Whether the transfer buffer is lent to a port call, or to the writing of a sheet.
+/// The Rust has none, and answers as where all of it is lent.
+fn is_lent_transfer(call: &Call) -> bool {
+    matches!(call, Call::Read(_) | Call::Send { .. } | Call::Sheet)
 }
 
 fn print_boxes(boxes: &Boxes, out: &mut impl Write) -> io::Result<()> {

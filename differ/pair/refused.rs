@@ -14,8 +14,8 @@ use crate::{faults, host};
 
 /// The numbers of the calls that are lent the transfer buffer, and of `new`, which
 /// is refused for a wrong length only.
-const LENT_TRANSFER: Range<usize> = 6..8;
-const NEW: usize = 8;
+const LENT_TRANSFER: Range<usize> = 6..9;
+const NEW: usize = 9;
 
 impl Pair<'_> {
     /// Whether a call that is lent the transfer buffer is refused, because the
@@ -76,7 +76,7 @@ impl Pair<'_> {
     fn refuses(&mut self, wrong: Vec<u8>, calls: Range<usize>, chance: &mut Chance) -> Checked {
         let good = std::mem::replace(&mut self.controller, wrong.clone());
         let number = calls.start + chance.below(calls.len());
-        let (name, answer) = self.call(number, chance);
+        let (name, answer) = self.call(number, chance)?;
         let call = format!("{name} with impossible bytes");
         self.refused(call, 1, answer, &wrong)?;
         self.controller = good;
@@ -84,7 +84,7 @@ impl Pair<'_> {
     }
 
     /// The call of this number, as the library has it.
-    fn call(&mut self, number: usize, chance: &mut Chance) -> (&'static str, u64) {
+    fn call(&mut self, number: usize, chance: &mut Chance) -> Checked<(&'static str, u64)> {
         let controller = &mut self.controller;
         let store = &mut self.disks[self.slot.unwrap_or(0)].store;
         let (name, answer) = match number {
@@ -105,10 +105,11 @@ impl Pair<'_> {
                 let answer = host::write_cmd(controller, table, data, transfer, b);
                 ("byte sent", answer)
             }
+            8 => ("sheet written", self.write_impossible(chance)?),
             _ => ("new", host::new(controller)),
         };
         self.watch.call(name);
-        (name, answer)
+        Ok((name, answer))
     }
 
     /// Changes bytes of the controller that do not count: of a command, a reply and

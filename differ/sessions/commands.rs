@@ -1,15 +1,17 @@
 //! Commands by chance, whose parameters mostly name what is there.
 
-use super::rooms;
+use super::{pauses, rooms};
 use crate::chance::Chance;
 use crate::faults;
 use crate::pair::Pair;
 use crate::watch::Checked;
 
 /// Sends the bytes; after a refusal mostly sees to it that they can be sent again.
-/// Answers whether all were taken.
+/// Now and then the session pauses between two of them. Answers whether all were
+/// taken.
 pub fn send_all(pair: &mut Pair, bytes: &[u8], chance: &mut Chance) -> Checked<bool> {
     for &b in bytes {
+        pauses::perhaps(pair, chance)?;
         if pair.send(b)? != 0 && !again(pair, b, chance)? {
             return Ok(false);
         }
@@ -73,6 +75,20 @@ fn cylinder(pair: &Pair, chance: &mut Chance) -> u8 {
         return chance.of(&[0, 1, 2, 3, 4, 39, 40, 204, 255]);
     }
     tracks[chance.below(tracks.len())].cylinder()
+}
+
+/// The cylinder, the c1 and the ID of a sector that mostly is on the disk.
+pub fn somewhere(pair: &Pair, chance: &mut Chance) -> (u8, u8, [u8; 4]) {
+    let tracks = pair.rust().disk().map_or(&[][..], |disk| disk.tracks());
+    let cylinder = cylinder(pair, chance);
+    let mut found = tracks.iter().filter(|track| track.cylinder() == cylinder);
+    match found.next() {
+        Some(track) if !track.sectors().is_empty() => {
+            let id = &track.sectors()[chance.below(track.sectors().len())].id;
+            (cylinder, (track.side() & 1) * 4, [id.c, id.h, id.r, id.n])
+        }
+        _ => (cylinder, unit(chance), [cylinder, 0, 1, chance.byte()]),
+    }
 }
 
 /// The head and the ID of a sector that mostly is under the heads.

@@ -1,6 +1,6 @@
 //! One turn of a session: a call, several of them, or a command.
 
-use super::{commands, rooms};
+use super::{commands, pauses, rooms};
 use crate::chance::Chance;
 use crate::pair::Pair;
 use crate::watch::Checked;
@@ -17,7 +17,7 @@ pub fn traffic(pair: &mut Pair, chance: &mut Chance) -> Checked {
         0..=3 => pair.put(commands::disk(pair, chance), chance.byte()),
         4 | 5 => pair.motor(chance.small(3)),
         6..=14 => repeat(chance.of(&[1, 1, 2, 3, 5, 40]), || pair.status()),
-        15 => poll_empty(pair),
+        15 => poll_empty(pair, chance),
         16..=27 => repeat(chance.of(&[1, 2, 7, 7, 20, 135, 700]), || pair.read()),
         28..=33 => read_empty(pair, chance),
         34 | 35 => pair.ask(),
@@ -29,6 +29,8 @@ pub fn traffic(pair: &mut Pair, chance: &mut Chance) -> Checked {
         40 | 41 => pair.scramble(chance),
         42 => pair.lookups(chance),
         43..=52 => commands::write(pair, chance),
+        53 | 54 => pair.pause(chance),
+        55 => pauses::damaged(pair, chance),
         _ => commands::any(pair, chance),
     }
 }
@@ -67,6 +69,7 @@ pub fn noise(pair: &mut Pair, chance: &mut Chance) -> Checked {
             let b = byte(chance);
             commands::broken(pair, b, chance).map(|_| ())
         }
+        12 => pair.pause(chance),
         _ => {
             let length = 1 + chance.below(40);
             let bytes: Vec<u8> = (0..length).map(|_| byte(chance)).collect();
@@ -89,11 +92,12 @@ fn repeat(times: usize, mut call: impl FnMut() -> Checked) -> Checked {
 }
 
 /// Reads the status until no data is left, or long enough.
-fn poll_empty(pair: &mut Pair) -> Checked {
+fn poll_empty(pair: &mut Pair, chance: &mut Chance) -> Checked {
     for _ in 0..MOST_POLLS {
         if pair.rust().unread().0 == 0 {
             break;
         }
+        pauses::perhaps(pair, chance)?;
         pair.status()?;
     }
     pair.status()
@@ -104,6 +108,7 @@ fn read_empty(pair: &mut Pair, chance: &mut Chance) -> Checked {
     let polls = chance.once_in(3);
     let (data, reply) = pair.rust().unread();
     for _ in 0..data + reply + 1 {
+        pauses::perhaps(pair, chance)?;
         if polls {
             pair.status()?;
         }

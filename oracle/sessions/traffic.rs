@@ -20,16 +20,16 @@ pub fn add(list: &mut List) {
     }
 }
 
-fn below(noise: &mut Noise, end: u8) -> u8 {
+pub(super) fn below(noise: &mut Noise, end: u8) -> u8 {
     noise.below(end.into()) as u8
 }
 
-fn one_of<T: Copy, const N: usize>(noise: &mut Noise, choices: [T; N]) -> T {
+pub(super) fn one_of<T: Copy, const N: usize>(noise: &mut Noise, choices: [T; N]) -> T {
     choices[noise.below(N)]
 }
 
 /// A disk of a few small tracks, equal ones among them.
-fn disk(noise: &mut Noise) -> Vec<u8> {
+pub(super) fn disk(noise: &mut Noise) -> Vec<u8> {
     let number = 3 + noise.below(3);
     let tracks: Vec<Track> = (0..number).map(|_| track(noise)).collect();
     image(tracks)
@@ -56,7 +56,7 @@ fn sector(noise: &mut Noise, cylinder: u8, side: u8) -> Sector {
 }
 
 /// One turn: a call, or a command.
-fn turn(noise: &mut Noise) -> Vec<Call> {
+pub(super) fn turn(noise: &mut Noise) -> Vec<Call> {
     match noise.below(100) {
         0..=6 => vec![change(noise)],
         7..=9 => vec![Call::Motor(noise.below(2) == 0)],
@@ -84,7 +84,7 @@ fn unit(noise: &mut Noise) -> u8 {
 }
 
 /// The ID of a sector that mostly may be there.
-fn id(noise: &mut Noise) -> Id {
+pub(super) fn id(noise: &mut Noise) -> Id {
     let n = one_of(noise, [0, 0, 0, 0, 1, 4]);
     [below(noise, 3), below(noise, 2), below(noise, 5), n]
 }

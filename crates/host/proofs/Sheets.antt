@@ -17,9 +17,9 @@ use Rattle.registers.specs.declared.regs.Switched.{Switched}
 use Rattle.registers.specs.Boxes.{World}
 use Rattle.layout.specs.Layout.{numbersLength, controllerLength, numbersFor, regsAt, heldAt, formed}
 use Rattle.sheet.specs.declared.writing.Paper.{Paper}
-use Rattle.sheet.specs.Calls.{Penned, penned, sheetWritten, takenFrom, Resuming, resuming, resumedAs, sheetRead}
+use Rattle.sheet.specs.Calls.{penned, sheetWritten, takenFrom, Resuming, resuming, resumedAs, sheetRead}
 use Rattle.words.specs.Words.{refusalWord, paperWord}
-use Rattle.host.specs.Calls.{Answered, answered, pennedOn, writeSheetOn, switchedAs, switchedOn, takenUp, resumedBy, resumedOn, readSheetOn}
+use Rattle.host.specs.Calls.{answered, pennedOn, writeSheetOn, switchedAs, switchedOn, takenUp, resumedBy, resumedOn, readSheetOn}
 use Rattle.host.proofs.Answers.{bad, well, mid-is, Put, held-put, put-back}
 
 -- ---- writing

@@ -10,8 +10,8 @@ use borrow.Author.Tests.{eq-eqb, le-leb}
 use Rattle.buffer.specs.Over.{over}
 use Rattle.buffer.proofs.Overs.{over-length}
 use Rattle.fields.specs.Bytes.{byteAt}
-use Rattle.fields.specs.Capacities.{mostTransfer, mostHeld}
-use Rattle.fields.specs.Refusals.{Result, good}
+use Rattle.fields.specs.Capacities.{mostHeld}
+use Rattle.fields.specs.Refusals.{good}
 use Rattle.fields.specs.Model.{Disk}
 use Rattle.store.specs.Store.{roomOf, transferRoom, diskOf}
 use Rattle.store.specs.declared.answer.Done.the-variants as done
@@ -19,16 +19,16 @@ use Rattle.store.proofs.Checks.{transfer-in}
 use Rattle.registers.specs.declared.regs.Regs.{Regs}
 use Rattle.registers.specs.Boxes.{Empty, World}
 use Rattle.registers.specs.Ports.{changeDisk}
-use Rattle.registers.specs.View.{settingOf, slotIf, insideOf, frontOf, impossibleIn}
+use Rattle.registers.specs.View.{settingOf, slotIf, insideOf, frontOf}
 use Rattle.registers.proofs.Numbers.{possible-in, until-in, until-long}
 use Rattle.sending.specs.Calls.{impossibleWith}
 use Rattle.sheet.specs.declared.writing.Paper.the-variants as paper
 use Rattle.sheet.specs.Sheets.{boxesOf, paperOf, sheetOf, wrongBoxes, worldIn}
-use Rattle.sheet.specs.Calls.{longestSheet, boxesSeen, penned, sheetWritten, heldFor, regsFor, takenFrom, resuming, resumedAs, sheetRead}
+use Rattle.sheet.specs.Calls.{longestSheet, boxesSeen, penned, sheetWritten, heldFor, regsFor, takenFrom, resuming, sheetRead}
 use Rattle.sheet.proofs.Gives.{gives-seen, gives-possible, seen-right, gives-nine, gives-seven, gives-held, gives-taken}
 use Rattle.sheet.proofs.Lengths.{sheet-most}
 use Rattle.sheet.proofs.Rounds.{Writable, sheet-back, accepted-right, accepted-empty, accepted-index}
-use Rattle.saves.specs.Events.{Event, Answer, Next, Run, run, swap, widen}
+use Rattle.saves.specs.Events.{Event, Answer, Next, run, swap, widen}
 use Rattle.saves.specs.Stages.{Stage, acted}
 use Rattle.saves.specs.Words.{Ready, Save, bytesOf, addressOf, IsSave, savedBy, Sends, Only}
 use Rattle.runs.specs.Hosts.{Host, withMore, called, seen, stageOf, storeOf, Sound}

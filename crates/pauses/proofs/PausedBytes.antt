@@ -1,26 +1,23 @@
 -- The same on lent bytes, by the exported calls.
-use mathlib.Core.Path.{_≡_, refl, sym, ap, subst, _∙_}
+use mathlib.Core.Path.{_≡_, refl, sym, ap, _∙_}
 use Prim.Native.Nat.{ℕ, _*_, _^_, _≤_, _<_}
-use mathlib.Core.Bool.{Bool, true}
 use mathlib.Core.List.{List, _++_, map}
 use lib.ListN.{length}
 use borrow.Author.Tests.{eq-eqb}
 use Rattle.buffer.specs.Over.{over}
 use Rattle.fields.specs.Bytes.{byteAt}
-use Rattle.fields.specs.Refusals.{Result, good}
+use Rattle.fields.specs.Refusals.{good}
 use Rattle.fields.specs.Model.{Disk}
 use Rattle.store.specs.Store.{transferRoom}
-use Rattle.registers.specs.declared.regs.Regs.{Regs}
 use Rattle.registers.specs.Boxes.{World}
-use Rattle.layout.specs.Layout.{controllerLength, regsAt, heldAt, formed, regsIn}
+use Rattle.layout.specs.Layout.{controllerLength, regsAt, heldAt, regsIn}
 use Rattle.sheet.specs.Sheets.{sheetOf, worldIn}
-use Rattle.sheet.specs.Calls.{longestSheet, Penned, sheetWritten, Resuming, sheetRead}
-use Rattle.host.specs.Calls.{Answered, answered, answeredOf, pennedOn, writeSheetOn, takenUp, resumedOn, readSheetOn}
-use Rattle.saves.specs.Events.{Event, Answer, Next, Run, run, swap}
+use Rattle.sheet.specs.Calls.{longestSheet}
+use Rattle.host.specs.Calls.{answered, pennedOn, writeSheetOn, takenUp, resumedOn, readSheetOn}
+use Rattle.saves.specs.Events.{Event, Next, Run, run, swap}
 use Rattle.saves.specs.Words.{Ready, Save, bytesOf, addressOf, IsSave, savedBy, Only}
 use Rattle.runs.specs.Hosts.{Host, withMore, called, seen, Sound}
 use Rattle.runs.specs.Alike.{Alike}
-use Rattle.runs.proofs.Steps.{agrees}
 use Rattle.lending.specs.Lendings.{Lending, exported, wordOf, hostAt, lendingOf, seenIn, storeIn, Formed, Posts}
 use Rattle.lending.proofs.Exports.{exports, host-run, host-back, host-formed}
 use Rattle.lending.proofs.Demands.{bytes-formed, formed-read, save-bytes}

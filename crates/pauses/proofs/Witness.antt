@@ -1,5 +1,5 @@
 -- That the hypotheses can be met: a sheet with something in every box, and a save that is paused after any of its bytes.
-use mathlib.Core.Path.{_≡_, refl, ap}
+use mathlib.Core.Path.{_≡_, refl}
 use Prim.Native.Nat.{ℕ, _<_}
 use native.Mathlib.Omega.{arith}
 use mathlib.Core.List.{List, [], _∷_}

@@ -1,4 +1,5 @@
 // The calls of a session, on a controller and two disks.
+use crate::sheets;
 use crate::show;
 use crate::show::Heard;
 use floppy::After;
@@ -383,6 +384,36 @@ fn set_number(bench: Bench, which: usize, value: usize) -> Bench {
     with(bench, Floppy { regs, held })
 }
 
+// The controller is written out as a sheet and read back, and the disk that was in is put in again.
+fn pause(bench: Bench, transfer: &mut Transfer) -> Bench {
+    replay::put(b"sheet");
+    let a = sheets::rewrite(bench.floppy, bench.transfer, transfer);
+    let done = a.done;
+    match done {
+        Done::Refused(_) => changed(bench, a),
+        Done::Good => {
+            let f = a.floppy;
+            changed(bench, f.set_disk(0 < bench.disk))
+        }
+    }
+}
+
+// Bytes are read as a sheet, whose controller has no disk.
+fn resume(mut bench: Bench, text: &[u8], transfer: &mut Transfer) -> Bench {
+    show::number(b"resume", text.len());
+    show::bytes(text);
+    let a = sheets::take_up(bench.floppy, text, bench.transfer, transfer);
+    let done = a.done;
+    match done {
+        Done::Refused(_) => {}
+        Done::Good => {
+            replay::put(b" done");
+            bench.disk = 0;
+        }
+    }
+    changed(bench, a)
+}
+
 // A call that is lent no store.
 fn at_ports(bench: Bench, kind: usize, number: usize, text: &[u8], transfer: &[u8]) -> Bench {
     match kind {
@@ -425,6 +456,12 @@ pub(crate) fn make(
     if kind == 9 {
         set_table(bench.disk, number, fields::byte(text, 0) as u8, tables);
         return bench;
+    }
+    if kind == 11 {
+        return pause(bench, transfer);
+    }
+    if kind == 12 {
+        return resume(bench, text, transfer);
     }
     at_ports(bench, kind, number, text, transfer)
 }

@@ -4,6 +4,7 @@
 // and, the buffers wiped, with those over a lent controller. The buffers are not cleared between two sessions.
 mod call;
 mod list;
+mod sheets;
 mod show;
 
 ghost use mathlib.Core.Path.{_≡_};

@@ -6,9 +6,9 @@ use mathlib.Core.List.{List, [], _∷_}
 use mathlib.Core.Option.{Option, none}
 use Rattle.fields.specs.Refusals.{Result, refused, good}
 use Rattle.fields.specs.Model.{Disk}
-use Rattle.store.specs.Store.{roomOf, transferRoom}
+use Rattle.store.specs.Store.{roomOf}
 use Rattle.store.specs.declared.answer.Done.{Done}
-use Rattle.registers.specs.Boxes.{Setting, World, Sent}
+use Rattle.registers.specs.Boxes.{Sent}
 use Rattle.registers.specs.Calls.{diskSet}
 use Rattle.registers.proofs.Seen.{disk-seen}
 use Rattle.commands.specs.Lent.{tableWith, dataWith, Left, leftOf}

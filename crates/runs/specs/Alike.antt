@@ -1,6 +1,5 @@
 -- Two hosts beside each other: when they are alike (02, request 2026-01).
 use mathlib.Core.Path.{_≡_}
-use Prim.Native.Nat.{ℕ}
 use mathlib.Core.List.{List, [], _∷_}
 use Rattle.store.specs.Store.{transferRoom}
 use Rattle.runs.specs.Hosts.{Host, seen, Sound}

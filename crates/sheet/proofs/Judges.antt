@@ -35,7 +35,7 @@ use Rattle.registers.specs.Boxes.{Writing, World, fitted}
 use Rattle.layout.specs.Layout.{flagAt, seekAt}
 use Rattle.sheet.specs.declared.reading.Places.{Places}
 use Rattle.sheet.specs.Sheets.{highAt, boxAt, behind, placesOf, boxesAt, framed, Sheet, oneTo, inRange, writeIf, worldFrom, wrongWriting, wrongBoxes, sheetAt, worldIn}
-use Rattle.sheet.specs.Calls.{onZeros, pendingFor, heldFor, regsFor, takenFrom, judged, resuming, resumedAs, sheetRead}
+use Rattle.sheet.specs.Calls.{onZeros, pendingFor, heldFor, regsFor, takenFrom, whetherTaken, resuming, resumedAs, sheetRead}
 use Rattle.sheet.proofs.Gives.{held-few, command-few, reply-few, write-fits}
 
 -- ---- the form
@@ -305,21 +305,21 @@ module _ (s x : List ℕ) (p : Places) (e : p ≡ placesOf s) where
   taken-by = ap (λ (q : Places). after (need (framed s) BadSheet (need (inRange (boxesAt s q)) BadSheet (need (not (wrongBoxes (worldFrom (boxesAt s q)))) BadSheet (good (worldFrom (boxesAt s q))))))
       (λ w. need (leb (length (w .front .unread)) (transferRoom x)) NoTransferRoom (good w))) (sym e)
 
-  pub judge-form : (u : Bool) → u ≡ framed s → not u ≡ true → done.Refused BadSheet ≡ judged (takenFrom s x)
+  pub judge-form : (u : Bool) → u ≡ framed s → not u ≡ true → done.Refused BadSheet ≡ whetherTaken (takenFrom s x)
   judge-form u eu nu = let a : framed s ≡ false = sym eu ∙ not-true u nu in rw (taken-by, a) refl
 
   module _ (u : Bool) (eu : u ≡ framed s) (nu : not u ≡ false) where
     a : framed s ≡ true
     a = sym eu ∙ not-false u nu
 
-    pub judge-range : (v : Bool) → v ≡ inRange (boxesAt s p) → not v ≡ true → done.Refused BadSheet ≡ judged (takenFrom s x)
+    pub judge-range : (v : Bool) → v ≡ inRange (boxesAt s p) → not v ≡ true → done.Refused BadSheet ≡ whetherTaken (takenFrom s x)
     judge-range v ev nv = let b : inRange (boxesAt s p) ≡ false = sym ev ∙ not-true v nv in rw (taken-by, a, b) refl
 
     module _ (v : Bool) (ev : v ≡ inRange (boxesAt s p)) (nv : not v ≡ false) where
       b : inRange (boxesAt s p) ≡ true
       b = sym ev ∙ not-false v nv
 
-      pub judge-boxes : (w : Bool) → w ≡ wrongBoxes (worldFrom (boxesAt s p)) → w ≡ true → done.Refused BadSheet ≡ judged (takenFrom s x)
+      pub judge-boxes : (w : Bool) → w ≡ wrongBoxes (worldFrom (boxesAt s p)) → w ≡ true → done.Refused BadSheet ≡ whetherTaken (takenFrom s x)
       judge-boxes w ew nw = let c : wrongBoxes (worldFrom (boxesAt s p)) ≡ true = sym ew ∙ nw in rw (taken-by, a, b, c) refl
 
       module _ (w : Bool) (ew : w ≡ wrongBoxes (worldFrom (boxesAt s p))) (nw : w ≡ false) (y : List ℕ) (n : ℕ) (ey : y ≡ boxAt 4 s (p .unread)) (en : n ≡ transferRoom x) where
@@ -330,13 +330,13 @@ module _ (s x : List ℕ) (p : Places) (e : p ≡ placesOf s) where
         unfolding worldFrom
         unread-is = ap length (sym ey)
 
-        pub judge-room : n < length y → done.Refused NoTransferRoom ≡ judged (takenFrom s x)
+        pub judge-room : n < length y → done.Refused NoTransferRoom ≡ whetherTaken (takenFrom s x)
         judge-room h =
             let d : leb (length (worldFrom (boxesAt s p) .front .unread)) (transferRoom x) ≡ false
             = lt-leb (length (worldFrom (boxesAt s p) .front .unread)) (transferRoom x) (omega (arith, unread-is, en, h)) in
             rw (taken-by, a, b, c, d) refl
 
-        pub judge-good : length y ≤ n → done.Good ≡ judged (takenFrom s x)
+        pub judge-good : length y ≤ n → done.Good ≡ whetherTaken (takenFrom s x)
         judge-good h =
             let d : leb (length (worldFrom (boxesAt s p) .front .unread)) (transferRoom x) ≡ true
             = le-leb (length (worldFrom (boxesAt s p) .front .unread)) (transferRoom x) (omega (arith, unread-is, en, h)) in
@@ -362,7 +362,7 @@ module _ (s x : List ℕ) (p : Places) (e : p ≡ placesOf s) where
   unfolding worldFrom
   room-is d = leb-true (length (boxAt 4 s (p .unread))) (transferRoom x) d
 
-  taken-good : judged (takenFrom s x) ≡ done.Good → Taken s x p
+  taken-good : whetherTaken (takenFrom s x) ≡ done.Good → Taken s x p
   taken-good j = go (framed s) refl (inRange (boxesAt s p)) refl (wrongBoxes W) refl (Room W) refl
     where
       by : (a b c : Bool) → framed s ≡ a → inRange (boxesAt s p) ≡ b → wrongBoxes W ≡ c
@@ -372,7 +372,7 @@ module _ (s x : List ℕ) (p : Places) (e : p ≡ placesOf s) where
           ∙ (λ i. after (need (ea i) BadSheet (need (eb i) BadSheet (need (not (ec i)) BadSheet (good W)))) (λ w. need (Room w) NoTransferRoom (good w)))
 
       no : (why : Refusal) → takenFrom s x ≡ refused why → Taken s x p
-      no why y = let z : done.Refused why ≡ done.Good = sym (ap judged y) ∙ j in never (cc)
+      no why y = let z : done.Refused why ≡ done.Good = sym (ap whetherTaken y) ∙ j in never (cc)
 
       go : (a : Bool) → framed s ≡ a → (b : Bool) → inRange (boxesAt s p) ≡ b → (c : Bool) → wrongBoxes W ≡ c → (d : Bool) → Room W ≡ d → Taken s x p
       go false ea b eb c ec d ed = no BadSheet (by false b c ea eb ec)
@@ -386,7 +386,7 @@ module _ (s x : List ℕ) (p : Places) (e : p ≡ placesOf s) where
         is = by true true false ea eb ec ∙ ap (λ (v : Bool). need v NoTransferRoom (good W)) ed;
       }
 
-  module _ (d : Done) (ed : d ≡ judged (takenFrom s x)) (eg : d ≡ done.Good) where
+  module _ (d : Done) (ed : d ≡ whetherTaken (takenFrom s x)) (eg : d ≡ done.Good) where
     t : Taken s x p
     t = taken-good (sym ed ∙ eg)
 
@@ -414,13 +414,13 @@ module _ (s x : List ℕ) (p : Places) (e : p ≡ placesOf s) where
         ∙ ap (λ (v : Result World). resumedAs v r h x) (sym (t .is))
 
 -- and where it is refused
-pub read-refused : (s x h : List ℕ) (r : Regs) (d : Done) (why : Refusal) → d ≡ judged (takenFrom s x) → d ≡ done.Refused why
+pub read-refused : (s x h : List ℕ) (r : Regs) (d : Done) (why : Refusal) → d ≡ whetherTaken (takenFrom s x) → d ≡ done.Refused why
     → resuming (record { done = d; regs = r }) h x ≡ sheetRead r h s x
 unfolding sheetRead
 read-refused s x h r d why e q = go (takenFrom s x) refl
   where
     go : (v : Result World) → takenFrom s x ≡ v → resuming (record { done = d; regs = r }) h x ≡ resumedAs (takenFrom s x) r h x
     go (refused z) f =
-        let k : d ≡ done.Refused z = e ∙ ap judged f in
+        let k : d ≡ done.Refused z = e ∙ ap whetherTaken f in
         ap (λ (y : Done). resuming (record { done = y; regs = r }) h x) k ∙ ap (λ (v : Result World). resumedAs v r h x) (sym f)
-    go (good w) f = let k : done.Good ≡ done.Refused why = sym (ap judged f) ∙ sym e ∙ q in never (cc)
+    go (good w) f = let k : done.Good ≡ done.Refused why = sym (ap whetherTaken f) ∙ sym e ∙ q in never (cc)

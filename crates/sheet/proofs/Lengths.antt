@@ -2,20 +2,18 @@
 use mathlib.Core.Path.{_≡_, refl, sym, ap, _∙_}
 use Prim.Native.Nat.{ℕ, _+_, _-_, _≤_, _<_}
 use native.Mathlib.Omega.{arith}
-use mathlib.Core.Bool.{Bool, true, false, not, _||_, cond}
+use mathlib.Core.Bool.{Bool, true, false, not, cond}
 use mathlib.Core.List.{List, [], _∷_}
 use mathlib.Core.Option.{Option, none, some}
 use lib.ListN.{length, take, replicate, length-append, length-replicate}
 use lib.Seq.{length-take-le, slice, length-slice}
-use lib.Dec.{eqb, ltb, leb}
-use borrow.Author.Tests.{eq-eqb, eqb-true, ne-eqb, lt-leb, ltb-false, leb-false, not-false}
+use lib.Dec.{eqb, leb}
+use borrow.Author.Tests.{eq-eqb, eqb-true, ne-eqb, lt-leb, leb-false, not-false}
 use Rattle.fields.specs.Capacities.{mostTransfer, mostHeld}
-use Rattle.fields.specs.Bytes.{byteAt}
 use Rattle.fields.specs.Model.{sizeOf}
 use Rattle.fields.proofs.Sizes.{size-most}
 use Rattle.fields.proofs.Tests.{never}
-use Rattle.codes.specs.Table.{commandOf, commandBy, rows, maskRows, bytesFor}
-use Rattle.codes.proofs.Rows.{bytes-range}
+use Rattle.codes.specs.Table.{commandOf, commandBy, rows, maskRows}
 use Rattle.store.proofs.Checks.{transfer-in}
 use Rattle.registers.specs.declared.regs.Regs.{Regs}
 use Rattle.registers.specs.declared.regs.Pending.{Pending}

@@ -86,9 +86,9 @@ unfoldable pub takenFrom : List ℕ → List ℕ → Result World
 takenFrom s x = after (worldIn s) (λ w. need (leb (length (w .front .unread)) (transferRoom x)) NoTransferRoom (good w))
 
 -- that it was read, or the refusal
-abbrev pub judged : Result World → Done
-judged (refused why) = done.Refused why
-judged (good w) = done.Good
+abbrev pub whetherTaken : Result World → Done
+whetherTaken (refused why) = done.Refused why
+whetherTaken (good w) = done.Good
 
 -- the answer with the registers, the held bytes and the transfer buffer
 pub data Resuming : Type 0 where

@@ -26,7 +26,7 @@ ghost use Rattle.fields.specs.Capacities.{mostTransfer, mostHeld};
 ghost use Rattle.codes.specs.Table.{commandOf, bytesFor};
 ghost use Rattle.layout.specs.Layout.{seekAt};
 ghost use Rattle.sheet.specs.Sheets.{highAt, boxAt, behind, placesOf, boxesAt, framed, oneTo, inRange, writeIf, worldFrom, wrongWriting, wrongBoxes};
-ghost use Rattle.sheet.specs.Calls.{onZeros, pendingFor, heldFor, regsFor, takenFrom, judged, resuming, sheetRead};
+ghost use Rattle.sheet.specs.Calls.{onZeros, pendingFor, heldFor, regsFor, takenFrom, whetherTaken, resuming, sheetRead};
 
 // Where the length of each box stands, and where the last box ends.
 pub struct Places {
@@ -330,7 +330,7 @@ fn regs_from(s: &[u8], p: Places) -> Regs
 // Whether these bytes are a sheet, and their unread data fit the transfer room.
 fn judge(s: &[u8], p: Places, transfer: &[u8]) -> Done
     requires { ⌜ p ≡ placesOf (now s) ⌝ }
-    ensures { λ r. ⌜ r ≡ judged (takenFrom (now (s .entry)) (now (transfer .entry))) ⌝ }
+    ensures { λ r. ⌜ r ≡ whetherTaken (takenFrom (now (s .entry)) (now (transfer .entry))) ⌝ }
 {
     if !is_framed(s, p.end) {
         return Done::Refused(Refusal::BadSheet);

@@ -1,5 +1,4 @@
 use borrow.Author.Tests.{eq-eqb, ne-eqb}
-use borrow.Author.Needs.{needs}
 use Rattle.sheet.proofs.reading.is_write.Statement.{statement}
 use Rattle.sheet.proofs.reading.is_write.Tie as tie
 
