@@ -104,6 +104,11 @@ module _ (k : Host) (s : Sound k) where
 
 -- ---- the controller that boxes give
 
+-- it shows these boxes, with no disk
+from-seen : (w : World) (t b x : List ℕ) → seen (hostFrom w t b x) ≡ changeDisk Empty w
+unfolding regsFor
+from-seen w t b x = gives-seen w x
+
 -- boxes that refusal 1 does not name, whose unread data fit the transfer room
 module _ (w : World) (t b x : List ℕ) (right : wrongBoxes w ≡ false) (index : w .inside .index < 65536) (fits : length (w .front .unread) ≤ transferRoom x) where
   abbrev J : Host
@@ -120,11 +125,6 @@ module _ (w : World) (t b x : List ℕ) (right : wrongBoxes w ≡ false) (index 
     possible = gives-possible w x right fits;
   }
 
-  -- it shows these boxes, with no disk
-  from-seen : seen J ≡ changeDisk Empty w
-  unfolding regsFor
-  from-seen = gives-seen w x
-
   -- and as much transfer room is lent
   from-room : transferRoom (J .transfer) ≡ transferRoom x
   unfolding transferRoom
@@ -136,11 +136,8 @@ pub sheet-sound : (s : List ℕ) (w : World) (t b x : List ℕ) → ((k : ℕ) �
 sheet-sound s w t b x bytes e fits = from-sound w t b x (accepted-right s w e) (accepted-index s w bytes e) fits
 
 -- and shows the boxes of the sheet, with no disk.
-pub sheet-seen : (s : List ℕ) (w : World) (t b x : List ℕ) → worldIn s ≡ good w → length (w .front .unread) ≤ transferRoom x → seen (hostFrom w t b x) ≡ w
-sheet-seen s w t b x e fits = unseen ∙ accepted-empty s w e
-  where
-    unseen : seen (hostFrom w t b x) ≡ changeDisk Empty w
-    unseen = unfold regsFor in gives-seen w x
+pub sheet-seen : (s : List ℕ) (w : World) (t b x : List ℕ) → worldIn s ≡ good w → seen (hostFrom w t b x) ≡ w
+sheet-seen s w t b x e = from-seen w t b x ∙ accepted-empty s w e
 
 -- ---- it goes on
 
@@ -183,7 +180,7 @@ module _ (k : Host) (y t b x : List ℕ) (s : Sound k) (room : transferRoom (k .
   from-is = from-sound W t b x (writable k s .right) (writable k s .index-fits) room-fits
 
   from-boxes : seen N ≡ changeDisk Empty W
-  from-boxes = from-seen W t b x (writable k s .right) (writable k s .index-fits) room-fits
+  from-boxes = from-seen W t b x
 
   -- A controller that is one, given more transfer room or none; and the one that is read from its sheet over as much room, given its disk: they are
   -- alike.
@@ -216,6 +213,28 @@ goes-on-same k t b x s room es =
     subst (λ (m : Host). (run called es m .answers ≡ run called es j .answers) × Alike (run called es m .end) (run called es j .end)) same
     (goes-on-calls k [] t b x s (ap transferRoom e ∙ room) es)
 
+-- ---- the sheet's own calls among the others
+
+-- Hosts that are alike write the same sheet,
+pub alike-sheet : (k j : Host) → Alike k j → sheetOf (seen k) ≡ sheetOf (seen j)
+alike-sheet k j a = ap (λ (w : World). sheetOf w) (a .boxes)
+
+-- and one sheet that is read over as much transfer room, whatever bytes are in it, leaves hosts that are alike.
+pub read-alike : (s : List ℕ) (w : World) (t b x x′ : List ℕ) → ((k : ℕ) → byteAt s k < 256) → worldIn s ≡ good w → length (w .front .unread) ≤ transferRoom x
+    → transferRoom x ≡ transferRoom x′ → Alike (hostFrom w t b x) (hostFrom w t b x′)
+read-alike s w t b x x′ bytes e fits room =
+    let fits′ : length (w .front .unread) ≤ transferRoom x′ = omega (arith, fits, room) in
+    let right = accepted-right s w e in
+    let index = accepted-index s w bytes e in
+    record {
+      one = sheet-sound s w t b x bytes e fits;
+      other = sheet-sound s w t b x′ bytes e fits′;
+      boxes = sheet-seen s w t b x e ∙ sym (sheet-seen s w t b x′ e);
+      table = refl;
+      bytes = refl;
+      room = from-room w t b x right index fits ∙ room ∙ sym (from-room w t b x′ right index fits′);
+    }
+
 -- ---- demands 2 and 3 from a sheet
 
 module _ (s : List ℕ) (w : World) (t b x : List ℕ) (bytes : (k : ℕ) → byteAt s k < 256) (e : worldIn s ≡ good w) (fits : length (w .front .unread) ≤ transferRoom x) where
@@ -227,7 +246,7 @@ module _ (s : List ℕ) (w : World) (t b x : List ℕ) (bytes : (k : ℕ) → by
   sheet-run es = ap (run acted es) stage ∙ calls-run es H (sheet-sound s w t b x bytes e fits)
     where
       stage : record { setting = settingOf b x; world = w } ≡ stageOf H
-      stage = λ i. record { setting = record { room = roomOf b; transfer = sym (from-room w t b x (accepted-right s w e) (accepted-index s w bytes e) fits) i }; world = sym (sheet-seen s w t b x e fits) i }
+      stage = λ i. record { setting = record { room = roomOf b; transfer = sym (from-room w t b x (accepted-right s w e) (accepted-index s w bytes e) fits) i }; world = sym (sheet-seen s w t b x e) i }
 
   -- Demand 3: a save after any calls from there, as from any controller that is one.
   pub sheet-save : (a : Save) (d : Disk) (fs es : List Event)
