@@ -10,8 +10,12 @@ use Rattle.lending.specs.Lendings.{Lending, exported, hostAt, lendingOf}
 
 -- the controller of these boxes, as `sheetRead` says, with a store lent and its unread data at the start of the transfer buffer
 abbrev pub hostFrom : World → List ℕ → List ℕ → List ℕ → Host
-hostFrom w t b x =
-    record { floppy = record { regs = regsFor w; held = heldFor (w .inside .write) }; table = t; bytes = b; transfer = over x 0 (w .front .unread) }
+hostFrom w t b x = record {
+  floppy = record { regs = regsFor w; held = heldFor (w .inside .write) };
+  table = t;
+  bytes = b;
+  transfer = over x 0 (w .front .unread);
+}
 
 -- the same with the disk put in again that was in the drive of another host, or none
 abbrev pub diskBack : Host → Host → Host

@@ -22,7 +22,7 @@ use Rattle.sheet.specs.declared.writing.Paper.{Paper}
 use Rattle.sheet.specs.declared.writing.Paper.the-variants as paper
 use Rattle.sheet.specs.Sheets.{sheetOf, worldIn}
 
--- the longest sheet: 31 bytes of numbers and lengths, a command of 8 bytes, a reply of 7, as much data as can be lent, and a write that lacks one byte
+-- the longest sheet: 31 bytes of numbers and lengths, a command of 8, a reply of 7, all data that can be lent, a write that lacks one byte
 abbrev pub longestSheet : ℕ
 longestSheet = 31 + 8 + 7 + mostTransfer + 5 + (mostHeld - 1)
 

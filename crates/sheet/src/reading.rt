@@ -25,7 +25,8 @@ ghost use Rattle.fields.specs.Bytes.{byteAt};
 ghost use Rattle.fields.specs.Capacities.{mostTransfer, mostHeld};
 ghost use Rattle.codes.specs.Table.{commandOf, bytesFor};
 ghost use Rattle.layout.specs.Layout.{seekAt};
-ghost use Rattle.sheet.specs.Sheets.{highAt, boxAt, behind, placesOf, boxesAt, framed, oneTo, inRange, writeIf, worldFrom, wrongWriting, wrongBoxes};
+ghost use Rattle.sheet.specs.Sheets.{highAt, boxAt, behind, placesOf, boxesAt, framed, oneTo, inRange, writeIf, worldFrom};
+ghost use Rattle.sheet.specs.Sheets.{wrongWriting, wrongBoxes};
 ghost use Rattle.sheet.specs.Calls.{onZeros, pendingFor, heldFor, regsFor, takenFrom, whetherTaken, resuming, sheetRead};
 
 // Where the length of each box stands, and where the last box ends.
@@ -173,7 +174,12 @@ fn in_range(s: &[u8], p: Places) -> bool
 // The ID in the box of a write.
 fn id_in(x: &[u8]) -> SectorId
     requires { ⌜ 5 ≤ length (now x) ⌝ }
-    ensures { λ r. ⌜ r ≡ record { c = byteAt (now (x .entry)) 1; h = byteAt (now (x .entry)) 2; r = byteAt (now (x .entry)) 3; n = byteAt (now (x .entry)) 4 } ⌝ }
+    ensures { λ r. ⌜ r ≡ record {
+      c = byteAt (now (x .entry)) 1;
+      h = byteAt (now (x .entry)) 2;
+      r = byteAt (now (x .entry)) 3;
+      n = byteAt (now (x .entry)) 4;
+    } ⌝ }
 {
     SectorId {
         c: x[1],
@@ -293,7 +299,11 @@ fn index_in(s: &[u8], at: usize) -> u16
 
 // The drive, with no disk in it.
 fn drive_in(s: &[u8], p: Places) -> Drive
-    ensures { λ r. ⌜ r ≡ record { cylinder = byteAt (boxAt 2 (now (s .entry)) (p .cylinder)) 0; seek = seekAt (byteAt (boxAt 2 (now (s .entry)) (p .seek)) 0); disk = false } ⌝ }
+    ensures { λ r. ⌜ r ≡ record {
+      cylinder = byteAt (boxAt 2 (now (s .entry)) (p .cylinder)) 0;
+      seek = seekAt (byteAt (boxAt 2 (now (s .entry)) (p .seek)) 0);
+      disk = false;
+    } ⌝ }
 {
     Drive {
         cylinder: number_in(s, p.cylinder),
@@ -347,8 +357,9 @@ fn judge(s: &[u8], p: Places, transfer: &[u8]) -> Done
     Done::Good
 }
 
-// Reads a sheet, which all of `sheet` is: the registers, with no disk; the held bytes, and unread data from the transfer buffer's start, where bytes
-// behind them stay. 11 for bytes that are no sheet, then 9 for unread data over the transfer room; both leave all as it came.
+// Reads a sheet, which all of `sheet` is: the registers, with no disk; the held bytes, and unread data from the transfer
+// buffer's start, where bytes behind them stay. 11 for bytes that are no sheet, then 9 for unread data over the transfer
+// room; both leave all as it came.
 pub fn read_parts(regs: Regs, held: &mut [u8], sheet: &[u8], transfer: &mut [u8]) -> Switched
     requires { ⌜ length (now held) ≡ mostHeld ⌝ }
     ensures { λ a. ⌜ resuming a (now (held .exit)) (now (transfer .exit))

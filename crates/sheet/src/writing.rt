@@ -62,7 +62,8 @@ fn opening(r: Regs, rest: usize) -> [u8; 18]
 // Lays a box at a place, its length in two bytes first, and answers the place behind it.
 fn put(sheet: &mut [u8], at: usize, x: &[u8]) -> usize
     requires { ⌜ at + 2 + length (now x) ≤ length (now sheet) ⌝ }
-    ensures { λ r. ⌜ (now (sheet .exit) ≡ over (now (sheet .entry)) at (boxFor 2 (now (x .entry)) [])) × (r ≡ at + 2 + length (now (x .entry))) ⌝ }
+    ensures { λ r. ⌜ (now (sheet .exit) ≡ over (now (sheet .entry)) at (boxFor 2 (now (x .entry)) []))
+        × (r ≡ at + 2 + length (now (x .entry))) ⌝ }
 {
     let n = x.len();
     let head = [(n / 256 % 256) as u8, (n % 256) as u8];
@@ -74,7 +75,8 @@ fn put(sheet: &mut [u8], at: usize, x: &[u8]) -> usize
 // The same for unread data, whose length takes four bytes.
 fn put_long(sheet: &mut [u8], at: usize, x: &[u8]) -> usize
     requires { ⌜ at + 4 + length (now x) ≤ length (now sheet) ⌝ }
-    ensures { λ r. ⌜ (now (sheet .exit) ≡ over (now (sheet .entry)) at (boxFor 4 (now (x .entry)) [])) × (r ≡ at + 4 + length (now (x .entry))) ⌝ }
+    ensures { λ r. ⌜ (now (sheet .exit) ≡ over (now (sheet .entry)) at (boxFor 4 (now (x .entry)) []))
+        × (r ≡ at + 4 + length (now (x .entry))) ⌝ }
 {
     let n = x.len();
     let head = [
@@ -191,8 +193,8 @@ fn impossible_with(r: Regs, held: &[u8], transfer: &[u8]) -> bool
     r.impossible_in(transfer)
 }
 
-// Writes the sheet of registers and held bytes to the buffer's start; bytes behind it stay. 1 for numbers that no controller has, then 13 for a
-// buffer that is too short; both leave it as it came.
+// Writes the sheet of registers and held bytes to the buffer's start; bytes behind it stay. 1 for numbers that no
+// controller has, then 13 for a buffer that is too short; both leave it as it came.
 pub fn write_parts(r: Regs, held: &[u8], transfer: &[u8], sheet: &mut [u8]) -> Paper
     ensures { λ a. ⌜ penned a (now (sheet .exit)) ≡ sheetWritten r (now (held .entry)) (now (transfer .entry)) (now (sheet .entry)) ⌝ }
 {
