@@ -4,19 +4,9 @@ use raze::floppy::SectorId;
 
 use crate::capacities::MOST_TRANSFER;
 use crate::chance::Chance;
-use crate::sheet::{self, BOXES, Sheet, Write};
-
-/// The places of boxes.
-const MOTOR: usize = 0;
-const SEEK: usize = 2;
-const COMMAND: usize = 4;
-const REPLY: usize = 5;
-const DATA: usize = 6;
-const LOST: usize = 7;
-const WRITE: usize = 8;
-
-/// How many bytes stand before the first box.
-const HEAD: usize = 5;
+use crate::sheet::{
+    self, BOXES, COMMAND, DATA, HEAD, LOST, MOTOR, REPLY, SEEK, Sheet, WRITE, Write,
+};
 
 /// First bytes of commands of every length.
 const FIRSTS: [u8; 10] = [0x46, 0x4c, 0x45, 0x4d, 0x4a, 0x0f, 0x04, 0x03, 0x49, 0x62];
@@ -142,11 +132,8 @@ fn cut(bytes: &[u8], chance: &mut Chance) -> Vec<u8> {
 /// Another byte in the length of the rest, or in that of a box.
 fn lie(bytes: &mut [u8], sheet: &Sheet, chance: &mut Chance) {
     let mut places: Vec<usize> = (1..HEAD).collect();
-    let mut place = HEAD;
-    for (number, content) in sheet.boxes().iter().enumerate() {
-        let width = sheet::width(number);
+    for (place, width) in sheet::lengths(&sheet.boxes()) {
         places.extend(place..place + width);
-        place += width + content.len();
     }
     let byte = &mut bytes[chance.of(&places)];
     *byte = match chance.below(4) {

@@ -6,9 +6,19 @@ use raze::floppy::{Boxes, Floppy, SectorId};
 
 use crate::capacities::transfer_refusal;
 
-/// How many boxes a sheet has, and which of them has a length of four bytes.
+/// How many boxes a sheet has, and the places of some of them. That of unread data has
+/// a length of four bytes.
 pub const BOXES: usize = 9;
-const DATA: usize = 6;
+pub const MOTOR: usize = 0;
+pub const SEEK: usize = 2;
+pub const COMMAND: usize = 4;
+pub const REPLY: usize = 5;
+pub const DATA: usize = 6;
+pub const LOST: usize = 7;
+pub const WRITE: usize = 8;
+
+/// How many bytes stand before the first box: the version and the length of the rest.
+pub const HEAD: usize = 5;
 
 const VERSION: u8 = 1;
 
@@ -181,8 +191,18 @@ pub fn is_partial(command: &[u8]) -> bool {
 }
 
 /// How many bytes the length of a box has.
-pub fn width(number: usize) -> usize {
+fn width(number: usize) -> usize {
     if number == DATA { 4 } else { 2 }
+}
+
+/// Where the length of each box stands on a sheet of these boxes, and how wide it is.
+pub fn lengths(boxes: &[Vec<u8>; BOXES]) -> [(usize, usize); BOXES] {
+    let mut place = HEAD;
+    std::array::from_fn(|number| {
+        let found = (place, width(number));
+        place += found.1 + boxes[number].len();
+        found
+    })
 }
 
 /// Lays boxes as a sheet, whatever is in them.

@@ -6,19 +6,9 @@ use raze::floppy::SectorId;
 
 use super::{List, no_tracks};
 use crate::session::Call;
-use crate::sheet::{self, BOXES, Sheet, Write};
-
-/// The places of boxes.
-const MOTOR: usize = 0;
-const SEEK: usize = 2;
-const COMMAND: usize = 4;
-const REPLY: usize = 5;
-const DATA: usize = 6;
-const LOST: usize = 7;
-const WRITE: usize = 8;
-
-/// Where the first box begins: behind the version and the length of the rest.
-const HEAD: usize = 5;
+use crate::sheet::{
+    self, BOXES, COMMAND, DATA, HEAD, LOST, MOTOR, REPLY, SEEK, Sheet, WRITE, Write,
+};
 
 /// Adds the sessions with damaged sheets.
 pub fn add(list: &mut List) {
@@ -126,21 +116,10 @@ fn add_frames(list: &mut List) {
     add_all(list, "left-over", silent.into_iter().chain(counted));
 }
 
-/// Where the length of each box stands in the good sheet, and how wide it is.
-fn lengths() -> [(usize, usize); BOXES] {
-    let boxes = good().boxes();
-    let mut place = HEAD;
-    std::array::from_fn(|number| {
-        let found = (place, sheet::width(number));
-        place += found.1 + boxes[number].len();
-        found
-    })
-}
-
 /// Each byte of each length one more, one less and 255, all else as it was.
 fn add_lengths_that_lie(list: &mut List) {
     let bytes = good().bytes();
-    let places = lengths().into_iter();
+    let places = sheet::lengths(&good().boxes()).into_iter();
     let places = places.flat_map(|(place, width)| place..place + width);
     let sheets = places.flat_map(|place| {
         let old = bytes[place];
@@ -162,7 +141,7 @@ fn add_box_lengths(list: &mut List) {
     add_all(list, "box-lengths", sheets);
     let whole = sheet::laid(&good().boxes().map(|_| Vec::new()));
     let missing = (0..BOXES).map(|number| {
-        let (place, width) = lengths()[number];
+        let (place, width) = sheet::lengths(&good().boxes())[number];
         let bytes = good().bytes();
         let behind = place + width + good().boxes()[number].len();
         sheet::framed(1, &[&bytes[HEAD..place], &bytes[behind..]].concat())

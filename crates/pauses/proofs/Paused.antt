@@ -23,11 +23,11 @@ use Rattle.registers.specs.View.{settingOf, slotIf, insideOf, frontOf}
 use Rattle.registers.proofs.Numbers.{possible-in, until-in, until-long}
 use Rattle.sending.specs.Calls.{impossibleWith}
 use Rattle.sheet.specs.declared.writing.Paper.the-variants as paper
-use Rattle.sheet.specs.Sheets.{boxesOf, paperOf, sheetOf, wrongBoxes, worldIn}
+use Rattle.sheet.specs.Sheets.{boxesOf, paperOf, sheetOf, wrongBoxes, worldIn, Writable}
 use Rattle.sheet.specs.Calls.{longestSheet, boxesSeen, penned, sheetWritten, heldFor, regsFor, takenFrom, resuming, sheetRead}
 use Rattle.sheet.proofs.Gives.{gives-seen, gives-possible, seen-right, gives-nine, gives-seven, gives-held, gives-taken}
 use Rattle.sheet.proofs.Lengths.{sheet-most}
-use Rattle.sheet.proofs.Rounds.{Writable, sheet-back, accepted-right, accepted-empty, accepted-index}
+use Rattle.sheet.proofs.Rounds.{sheet-back, accepted-right, accepted-empty, accepted-index}
 use Rattle.saves.specs.Events.{Event, Answer, Next, run, swap, widen}
 use Rattle.saves.specs.Stages.{Stage, acted}
 use Rattle.saves.specs.Words.{Ready, Save, bytesOf, addressOf, IsSave, savedBy, Sends, Only}

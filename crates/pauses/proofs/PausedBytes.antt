@@ -14,7 +14,7 @@ use Rattle.layout.specs.Layout.{controllerLength, regsAt, heldAt, regsIn}
 use Rattle.sheet.specs.Sheets.{sheetOf, worldIn}
 use Rattle.sheet.specs.Calls.{longestSheet}
 use Rattle.host.specs.Calls.{answered, pennedOn, writeSheetOn, takenUp, resumedOn, readSheetOn}
-use Rattle.saves.specs.Events.{Event, Next, Run, run, swap}
+use Rattle.saves.specs.Events.{Event, Next, Run, run, swap, widen}
 use Rattle.saves.specs.Words.{Ready, Save, bytesOf, addressOf, IsSave, savedBy, Only}
 use Rattle.runs.specs.Hosts.{Host, withMore, called, seen, Sound}
 use Rattle.runs.specs.Alike.{Alike}
@@ -71,10 +71,6 @@ module _ (s : List ℕ) (w : World) (t b x : List ℕ) (bytes : (k : ℕ) → by
 
 -- ---- it goes on
 
--- the bytes with more transfer room
-abbrev pub moreIn : List ℕ → Lending → Lending
-moreIn y l = record { controller = l .controller; table = l .table; bytes = l .bytes; transfer = l .transfer ++ y }
-
 module _ (l : Lending) (f : Formed l) (y t b x : List ℕ) (room : transferRoom (l .transfer ++ y) ≡ transferRoom x) where
   abbrev P : Host
   P = withMore y (hostAt l)
@@ -85,8 +81,13 @@ module _ (l : Lending) (f : Formed l) (y t b x : List ℕ) (room : transferRoom 
   alike : Alike P Q
   alike = goes-on (hostAt l) y t b x (f .sound) room
 
-  paused-is : moreIn y l ≡ lendingOf P
-  paused-is = ap (moreIn y) (sym (f .same))
+  -- the bytes with more transfer room
+  abbrev M : Lending
+  M = exported (widen y) l .then
+
+  paused-is : M ≡ lendingOf P
+  unfolding exported
+  paused-is = ap (λ (m : Lending). exported (widen y) m .then) (sym (f .same))
 
   resumed-is : diskBackIn l (lendingFrom (seenIn l) t b x) ≡ lendingOf Q
   resumed-is =
@@ -96,11 +97,11 @@ module _ (l : Lending) (f : Formed l) (y t b x : List ℕ) (room : transferRoom 
   -- A controller's bytes, with more transfer room or none, and those that are read from its sheet over as much room, with its disk put in again: every
   -- later exported call answers the same word on both, refusals included, and they leave the same table and data, and equal boxes.
   pub bytes-go-on : (es : List Event)
-      → let m : Run ℕ Lending = run exported es (moreIn y l) in let n : Run ℕ Lending = run exported es (diskBackIn l (lendingFrom (seenIn l) t b x)) in
+      → let m : Run ℕ Lending = run exported es (exported (widen y) l .then) in let n : Run ℕ Lending = run exported es (diskBackIn l (lendingFrom (seenIn l) t b x)) in
       (m .answers ≡ n .answers) × ((m .end .table ≡ n .end .table) × ((m .end .bytes ≡ n .end .bytes) × (seenIn (m .end) ≡ seenIn (n .end))))
   bytes-go-on es =
       let both = goes-on-calls (hostAt l) y t b x (f .sound) room es in
-      let m : run exported es (moreIn y l) ≡ record { answers = map wordOf (run called es P .answers); end = lendingOf (run called es P .end) }
+      let m : run exported es (exported (widen y) l .then) ≡ record { answers = map wordOf (run called es P .answers); end = lendingOf (run called es P .end) }
       = ap (run exported es) paused-is ∙ host-run es P (alike .one) in
       let n : run exported es (diskBackIn l (lendingFrom (seenIn l) t b x)) ≡ record { answers = map wordOf (run called es Q .answers); end = lendingOf (run called es Q .end) }
       = ap (run exported es) resumed-is ∙ host-run es Q (alike .other) in

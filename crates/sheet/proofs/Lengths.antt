@@ -24,7 +24,7 @@ use Rattle.registers.specs.Possible.{Possible}
 use Rattle.registers.proofs.Numbers.{neither, possible, possible-in, until-in, until-long, count-few, taken-few}
 use Rattle.sending.specs.Calls.{impossibleWith}
 use Rattle.sheet.specs.Sheets.{boxFor, writeBox, boxesOf, boxesFor, paperOf, sheetOf, wrongWriting, wrongBoxes}
-use Rattle.sheet.specs.Calls.{longestSheet, boxesSeen}
+use Rattle.sheet.specs.Calls.{longestSheet, Longest, boxesSeen}
 use Rattle.sheet.proofs.Gives.{seen-right, command-few, reply-few, write-fits}
 
 -- ---- numbers that are possible
@@ -151,13 +151,6 @@ sheet-most r h x seven e =
     = omega (arith, length-slice (r .from) (r .until) x (until-long x r ok), until-in x r ok, transfer-in x) in
     sheet-longest (boxesSeen r h x) (seen-right r h x seven (possible-in x r ok)) few
 
--- and one is as long.
-pub record Longest : Type 0 where
-  pub boxes : World
-  pub right : wrongBoxes boxes ≡ false
-  pub unread-most : length (boxes .front .unread) ≡ mostTransfer
-  pub long : length (sheetOf boxes) ≡ longestSheet
-
 -- a Read Data and a write of 1,024 bytes, each of which lacks its last byte
 filled : List ℕ → List ℕ → World
 filled u h = record {
@@ -183,6 +176,7 @@ filled-all : (u h : List ℕ) → length u ≡ mostTransfer → length h ≡ mos
 unfolding filled
 filled-all u h p q = record { boxes = filled u h; right = filled-right u h (omega arith); unread-most = p; long = omega (arith, filled-long u h) }
 
+-- and one is as long.
 pub longest : Longest
 longest =
     let zeros : (n : ℕ) → length (replicate {A = ℕ} n 0) ≡ n = λ n. length-replicate {A = ℕ} n 0 in

@@ -20,7 +20,7 @@ use Rattle.layout.specs.Layout.{flagByte, seekByte}
 use Rattle.layout.proofs.Inverse.{flag-back, seek-back, flag-kept, seek-kept}
 use Rattle.fields.proofs.Tests.{and-fst, and-snd, need-good}
 use Rattle.sheet.specs.Sheets.{highFor, highAt, Sheet, writeBox, boxesOf, boxFor, boxesFor, paperOf, sheetOf}
-use Rattle.sheet.specs.Sheets.{boxAt, behind, placesOf, sheetAt, framed, oneTo, inRange, writeIf, worldFrom, wrongWriting, wrongBoxes, worldIn}
+use Rattle.sheet.specs.Sheets.{boxAt, behind, placesOf, sheetAt, framed, oneTo, inRange, writeIf, worldFrom, wrongWriting, wrongBoxes, worldIn, Writable}
 use Rattle.sheet.specs.declared.reading.Places.{Places}
 use Rattle.sheet.proofs.Gives.{held-few, command-few, reply-few, write-fits}
 
@@ -328,12 +328,6 @@ world-kept p b e =
     }
 
 -- ---- writing, then reading
-
--- boxes whose lengths and index fit the form
-pub record Writable (w : World) : Type 0 where
-  pub index-fits : w .inside .index < 65536
-  pub unread-fits : length (w .front .unread) ≤ mostTransfer
-  pub right : wrongBoxes w ≡ false
 
 write-short : (w : Option Writing) → wrongWriting w ≡ false → length (writeBox w) < 65536
 write-short none e = omega arith

@@ -1,4 +1,5 @@
 -- What the calls that write and read a sheet answer and leave.
+use mathlib.Core.Path.{_≡_}
 use Prim.Native.Nat.{ℕ, _+_, _-_}
 use mathlib.Core.Bool.{Bool, true, false}
 use mathlib.Core.List.{List}
@@ -20,11 +21,18 @@ use Rattle.registers.specs.View.{insideOf, frontOf}
 use Rattle.sending.specs.Calls.{impossibleWith}
 use Rattle.sheet.specs.declared.writing.Paper.{Paper}
 use Rattle.sheet.specs.declared.writing.Paper.the-variants as paper
-use Rattle.sheet.specs.Sheets.{sheetOf, worldIn}
+use Rattle.sheet.specs.Sheets.{sheetOf, wrongBoxes, worldIn}
 
 -- the longest sheet: 31 bytes of numbers and lengths, a command of 8, a reply of 7, all data that can be lent, a write that lacks one byte
 abbrev pub longestSheet : ℕ
 longestSheet = 31 + 8 + 7 + mostTransfer + 5 + (mostHeld - 1)
+
+-- boxes whose sheet is as long
+pub record Longest : Type 0 where
+  pub boxes : World
+  pub right : wrongBoxes boxes ≡ false
+  pub unread-most : length (boxes .front .unread) ≡ mostTransfer
+  pub long : length (sheetOf boxes) ≡ longestSheet
 
 -- ---- Writing
 

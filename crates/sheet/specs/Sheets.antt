@@ -1,11 +1,13 @@
 -- A sheet for every box (02, request 2026-01): the boxes of the machine, all but what is in the drive, as bytes, and back.
-use Prim.Native.Nat.{ℕ, zero, suc, _+_, _*_, _^_, _/_, _%_}
+use mathlib.Core.Path.{_≡_}
+use Prim.Native.Nat.{ℕ, zero, suc, _+_, _*_, _^_, _/_, _%_, _≤_, _<_}
 use mathlib.Core.Bool.{Bool, true, false, not, _&&_, _||_}
 use mathlib.Core.List.{List, [], _∷_, _++_}
 use mathlib.Core.Option.{Option, none, some}
 use lib.ListN.{length, take, drop}
 use lib.Dec.{eqb, leb, ltb}
 use Rattle.fields.specs.Bytes.{byteAt}
+use Rattle.fields.specs.Capacities.{mostTransfer}
 use Rattle.fields.specs.Refusals.{Result, good, need}
 use Rattle.fields.specs.Model.{sizeOf}
 use Rattle.fields.specs.declared.refusal.Refusal.the-variants.{BadSheet}
@@ -200,3 +202,9 @@ unfoldable pub worldIn : List ℕ → Result World
 worldIn s =
     let w : World = worldFrom (sheetAt s) in
     need (framed s) BadSheet (need (inRange (sheetAt s)) BadSheet (need (not (wrongBoxes w)) BadSheet (good w)))
+
+-- boxes that can be written out: those that refusal 1 does not name, with an index of two bytes and no more unread data than can be lent
+pub record Writable (w : World) : Type 0 where
+  pub index-fits : w .inside .index < 65536
+  pub unread-fits : length (w .front .unread) ≤ mostTransfer
+  pub right : wrongBoxes w ≡ false
