@@ -3,7 +3,7 @@ use Prim.Native.Nat.{ℕ, _+_, _*_, _/_, _%_, _^_}
 use mathlib.Core.Bool.{cond}
 use mathlib.Core.List.{List, [], _∷_}
 use lib.ListN.{length}
-use lib.Dec.{eqb}
+use lib.Dec.{eqb, ltb, leb}
 use Rattle.fields.specs.declared.id.SectorId.{SectorId}
 use Rattle.fields.specs.declared.id.St1.{St1}
 use Rattle.fields.specs.declared.id.St2.{St2}
@@ -12,9 +12,12 @@ use Rattle.fields.specs.declared.id.St2.{St2}
 unfoldable pub sizeOf : ℕ → ℕ
 sizeOf n = 128 * 2 ^ (n % 4)
 
--- copies: stored length over size by n where that leaves no remainder, else 0 (01, "Listing program")
+-- copies: for n of 4 or more 1 when anything is stored, 0 when nothing is (2026-02); for n 0 to 3 stored length over size by n where that leaves no remainder, else 0 (01)
 unfoldable pub copies : ℕ → ℕ → ℕ
-copies stored n = cond (eqb (stored % sizeOf n) 0) (stored / sizeOf n) 0
+copies stored n =
+    cond (leb 4 n)
+    (cond (ltb 0 stored) 1 0)
+    (cond (eqb (stored % sizeOf n) 0) (stored / sizeOf n) 0)
 
 -- a sector: its ID, its two status bytes and its stored bytes, however many
 pub record Sector : Type 0 where

@@ -24,10 +24,14 @@ impl SectorId {
         size_of(self.n)
     }
 
-    // How often that size goes into a stored length, 0 where that leaves a remainder.
+    // How many copies are stored. An n of 4 or more is a large sector, stored once or not at all.
+    // Of a smaller n it is how often the size goes into the stored length, 0 where that leaves a remainder.
     pub fn copies(self, stored: usize) -> usize
         ensures { λ r. ⌜ r ≡ copies stored (self .n) ⌝ }
     {
+        if 4 <= self.n {
+            return (0 < stored) as usize;
+        }
         let size = self.len();
         if stored % size == 0 {
             return stored / size;
