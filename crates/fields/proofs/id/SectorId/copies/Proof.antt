@@ -8,7 +8,7 @@ cast-result : tie.Need-cast-result
 cast-result c = search needs
 
 returns : tie.Need-returns
-returns c = copies-large _ _ (c .if1 .taken)
+returns c = copies-large _ _ (omega (arith, c .if1 .taken))
 
 len-requires : tie.Need-len-requires
 len-requires c κs = search needs
@@ -20,10 +20,10 @@ div-result : tie.Need-div-result
 div-result c = omega (arith, c .before .len .ensures, size-pos (c .before .before .before .before .args .self .n))
 
 returns-2 : tie.Need-returns-2
-returns-2 c = copies-whole _ _ _ (c .before .before .if1 .left) (c .before .len .ensures) (c .if2 .taken)
+returns-2 c = copies-whole _ _ _ (omega (arith, c .before .before .if1 .left)) (c .before .len .ensures) (c .if2 .taken)
 
 returns-3 : tie.Need-returns-3
-returns-3 c = copies-none _ _ _ (c .before .before .if1 .left) (c .before .len .ensures) (c .if2 .left)
+returns-3 c = copies-none _ _ _ (omega (arith, c .before .before .if1 .left)) (c .before .len .ensures) (c .if2 .left)
 
 pub copies-spec : {M : Type 1} → statement M
 copies-spec =
