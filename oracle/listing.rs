@@ -1,5 +1,5 @@
-//! Prints what document 01's listing program has to print for an image, from the
-//! disk that the Rust loads.
+//! Prints what document 01's listing program, with the copies of request 2026-02, has
+//! to print for an image, from the disk that the Rust loads.
 
 use std::io::{self, Cursor, Write};
 
@@ -71,20 +71,29 @@ fn print_track(track: &Track, out: &mut impl Write) -> io::Result<()> {
 
 fn print_sector(sector: &Sector, out: &mut impl Write) -> io::Result<()> {
     let id = &sector.id;
-    let stored = sector.data.len();
-    let copies = if stored % id.len() == 0 {
-        stored / id.len()
-    } else {
-        0
-    };
     writeln!(
         out,
-        "sector {} {} {} {} {} {} {stored} {copies}",
+        "sector {} {} {} {} {} {} {} {}",
         id.c,
         id.h,
         id.r,
         id.n,
         sector.st1.bits(),
-        sector.st2.bits()
+        sector.st2.bits(),
+        sector.data.len(),
+        copies(sector)
     )
+}
+
+/// The last column, which the Rust does not have: 01's rule for n 0 to 3, request
+/// 2026-02's for all others.
+fn copies(sector: &Sector) -> usize {
+    let stored = sector.data.len();
+    let size = sector.id.len();
+    match sector.id.n {
+        0..=3 if stored % size == 0 => stored / size,
+        0..=3 => 0,
+        _ if stored == 0 => 0,
+        _ => 1,
+    }
 }
