@@ -8,7 +8,7 @@ use lib.Pow.{pow-pos, pow-mono, shl-exact}
 use lib.Dec.{eqb, ltb, leb, lit<}
 use mir.Val.{boolByte}
 use borrow.Author.Tests.{le-leb, lt-leb, ltb-true, eq-eqb, ne-eqb}
-use Rattle.fields.specs.Model.{sizeOf, copies}
+use Rattle.fields.specs.Model.{sizeOf, wholeSizes, copies}
 use Rattle.fields.specs.Capacities.{mostHeld}
 
 -- the shift by n's two low bits, as a word has it, is the size
@@ -40,20 +40,20 @@ copies-large stored n l = simp (le-leb 4 n l) (as-number (ltb 0 stored))
 -- of a smaller n: how often the size goes in, or none where that leaves a remainder
 module _ (stored n size : ℕ) (small : n < 4) (e : size ≡ sizeOf n) where
   pub copies-whole : stored % size ≡ 0 → stored / size ≡ copies stored n
-  unfolding copies
+  unfolding copies wholeSizes
   copies-whole h =
       let q : stored % sizeOf n ≡ 0 = ap (λ (k : ℕ). stored % k) (sym e) ∙ h in
       simp (lt-leb 4 n small, eq-eqb _ _ q) (ap (λ (k : ℕ). stored / k) e)
 
   pub copies-none : (stored % size ≡ 0 → ⊥) → 0 ≡ copies stored n
-  unfolding copies
+  unfolding copies wholeSizes
   copies-none h =
       let q : stored % sizeOf n ≡ 0 → ⊥ = λ p. h (ap (λ (k : ℕ). stored % k) e ∙ p) in
       simp (lt-leb 4 n small, ne-eqb _ _ q)
 
 -- there are never more copies than bytes
 pub copies-few : (stored n : ℕ) → copies stored n ≤ stored
-unfolding copies
+unfolding copies wholeSizes
 copies-few stored n = by (leb 4 n) (ltb 0 stored) (eqb (stored % sizeOf n) 0) (ltb-true 0 stored)
   where
     by : (large some whole : Bool) → (some ≡ true → 0 < stored) → cond large (cond some 1 0) (cond whole (stored / sizeOf n) 0) ≤ stored
@@ -64,5 +64,5 @@ copies-few stored n = by (leb 4 n) (ltb 0 stored) (eqb (stored % sizeOf n) 0) (l
 
 -- the archive's sector and the other cases of 2026-02
 pub copies-cases : (copies 6144 6 ≡ 1) × (copies 0 4 ≡ 0) × (copies 3072 3 ≡ 3) × (copies 129 0 ≡ 0) × (copies 1 255 ≡ 1)
-unfolding copies sizeOf
+unfolding copies wholeSizes sizeOf
 copies-cases = (refl, refl, refl, refl, refl)

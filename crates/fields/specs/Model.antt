@@ -12,12 +12,13 @@ use Rattle.fields.specs.declared.id.St2.{St2}
 unfoldable pub sizeOf : ℕ → ℕ
 sizeOf n = 128 * 2 ^ (n % 4)
 
--- copies: for n of 4 or more 1 when anything is stored, 0 when nothing is (2026-02); for n 0 to 3 stored length over size by n where that leaves no remainder, else 0 (01)
+-- the whole sizes stored: stored length over size by n where that leaves no remainder, else 0 (01, "Listing program")
+unfoldable pub wholeSizes : ℕ → ℕ → ℕ
+wholeSizes stored n = cond (eqb (stored % sizeOf n) 0) (stored / sizeOf n) 0
+
+-- copies: for n of 4 or more 1 when anything is stored, 0 when nothing is (2026-02); for n 0 to 3 the whole sizes stored
 unfoldable pub copies : ℕ → ℕ → ℕ
-copies stored n =
-    cond (leb 4 n)
-    (cond (ltb 0 stored) 1 0)
-    (cond (eqb (stored % sizeOf n) 0) (stored / sizeOf n) 0)
+copies stored n = cond (leb 4 n) (cond (ltb 0 stored) 1 0) (wholeSizes stored n)
 
 -- a sector: its ID, its two status bytes and its stored bytes, however many
 pub record Sector : Type 0 where
