@@ -24,7 +24,7 @@ impl SectorId {
         size_of(self.n)
     }
 
-    // How many copies are stored. An n of 4 or more is a large sector, stored once or not at all.
+    // How many copies are stored. A sector with n of 4 or more counts as one large one, or none without bytes.
     // Of a smaller n it is how often the size goes into the stored length, 0 where that leaves a remainder.
     pub fn copies(self, stored: usize) -> usize
         ensures { λ r. ⌜ r ≡ copies stored (self .n) ⌝ }
