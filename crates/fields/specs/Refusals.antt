@@ -4,9 +4,9 @@ use mathlib.Core.Bool.{Bool, true, false}
 use Rattle.fields.specs.declared.refusal.Refusal.{Refusal}
 use Rattle.fields.specs.declared.refusal.Refusal.the-variants.{BadController, BadStore, ShortImage, NotAnImage, NotATrack, TooManyTracks}
 use Rattle.fields.specs.declared.refusal.Refusal.the-variants.{TooManySectors, NoRoom, NoTransferRoom, LongInput}
-use Rattle.fields.specs.declared.refusal.Refusal.the-variants.{BadSheet, ShortBuffer}
+use Rattle.fields.specs.declared.refusal.Refusal.the-variants.{BadSheet, NoImage, ShortBuffer}
 
--- the table "Refusal numbers" of 01; 11 and 13 of request 2026-01
+-- the table "Refusal numbers" of 01; 11 and 13 of request 2026-01, 12 of 2026-03
 abbrev pub numberOf : Refusal → ℕ
 numberOf BadController = 1
 numberOf BadStore = 2
@@ -19,6 +19,7 @@ numberOf NoRoom = 8
 numberOf NoTransferRoom = 9
 numberOf LongInput = 10
 numberOf BadSheet = 11
+numberOf NoImage = 12
 numberOf ShortBuffer = 13
 
 -- what is read, or why it is refused

@@ -14,6 +14,7 @@ pub enum Refusal {
     NoTransferRoom,
     LongInput,
     BadSheet,
+    NoImage,
     ShortBuffer,
 }
 
@@ -34,6 +35,7 @@ impl Refusal {
             Refusal::NoTransferRoom => 9,
             Refusal::LongInput => 10,
             Refusal::BadSheet => 11,
+            Refusal::NoImage => 12,
             Refusal::ShortBuffer => 13,
         }
     }

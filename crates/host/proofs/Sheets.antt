@@ -16,9 +16,10 @@ use Rattle.registers.specs.declared.regs.Regs.{Regs}
 use Rattle.registers.specs.declared.regs.Switched.{Switched}
 use Rattle.registers.specs.Boxes.{World}
 use Rattle.layout.specs.Layout.{numbersLength, controllerLength, numbersFor, regsAt, heldAt, formed}
-use Rattle.sheet.specs.declared.writing.Paper.{Paper}
-use Rattle.sheet.specs.Calls.{penned, sheetWritten, takenFrom, Resuming, resuming, resumedAs, sheetRead}
-use Rattle.words.specs.Words.{refusalWord, paperWord}
+use Rattle.store.specs.declared.answer.Extent.{Extent}
+use Rattle.store.specs.Calls.{penned}
+use Rattle.sheet.specs.Calls.{sheetWritten, takenFrom, Resuming, resuming, resumedAs, sheetRead}
+use Rattle.words.specs.Words.{refusalWord, extentWord}
 use Rattle.host.specs.Calls.{answered, pennedOn, writeSheetOn, switchedAs, switchedOn, takenUp, resumedBy, resumedOn, readSheetOn}
 use Rattle.host.proofs.Answers.{bad, well, mid-is, Put, held-put, put-back}
 
@@ -29,8 +30,8 @@ module _ (l x s : List ℕ) (v : Bool) (e : v ≡ formed l) where
   unfolding writeSheetOn
   sheet-bad w n q = rw (bad l v e n) (ap (λ (z : ℕ). answered z s) q)
 
-  pub sheet-good : (g : Regs) (a : Paper) (s′ : List ℕ) (w : ℕ) → not v ≡ false → g ≡ regsAt l
-      → penned a s′ ≡ sheetWritten g (midOf numbersLength (length l - numbersLength) l) x s → w ≡ paperWord a → answered w s′ ≡ writeSheetOn l x s
+  pub sheet-good : (g : Regs) (a : Extent) (s′ : List ℕ) (w : ℕ) → not v ≡ false → g ≡ regsAt l
+      → penned a s′ ≡ sheetWritten g (midOf numbersLength (length l - numbersLength) l) x s → w ≡ extentWord a → answered w s′ ≡ writeSheetOn l x s
   unfolding writeSheetOn
   sheet-good g a s′ w n f o q =
       let z : penned a s′ ≡ sheetWritten (regsAt l) (heldAt l) x s = o ∙ (λ i. sheetWritten (f i) (mid-is l i) x s) in

@@ -14,7 +14,7 @@ use Rattle.store.specs.Search.{sectorAt}
 use Rattle.store.specs.Find.{nothing}
 use Rattle.store.specs.Store.{diskOf}
 use Rattle.store.specs.Spots.{placeOf}
-use Rattle.store.specs.Calls.{Outcome, outcome}
+use Rattle.store.specs.Calls.{Outcome, outcome, Penned, penned}
 use Rattle.store.specs.declared.find.Place.{Place}
 use Rattle.store.specs.declared.find.Place.the-variants as place
 use Rattle.store.specs.declared.answer.Done.{Done}
@@ -32,8 +32,8 @@ use Rattle.commands.specs.Lent.{Left, left}
 use Rattle.sending.specs.Calls.{dataWrite}
 use Rattle.floppy.specs.Calls.{newFloppy, Wrote, wrote}
 use Rattle.layout.specs.Layout.{controllerLength, numbersFor, floppyBytes, regsAt, heldAt, regsIn}
-use Rattle.sheet.specs.Calls.{Penned, penned, sheetWritten, Resuming, resuming, sheetRead}
-use Rattle.words.specs.Words.{refusalWord, byteWord, flagWord, doneWord, receiptWord, paperWord}
+use Rattle.sheet.specs.Calls.{sheetWritten, Resuming, resuming, sheetRead}
+use Rattle.words.specs.Words.{refusalWord, byteWord, flagWord, doneWord, receiptWord, extentWord}
 use Rattle.floppy.specs.declared.Shown.{Shown}
 use Rattle.floppy.specs.declared.Changed.{Changed}
 
@@ -127,9 +127,9 @@ writeOn l t d x b = sendingOf l t d x (regsIn l) (λ r. postedOn l (dataWrite r 
 
 -- ---- Sheets
 
--- the word, and the buffer that the sheet is written to
+-- the word, and the buffer that is written to
 abbrev pub pennedOn : Penned → Answered
-pennedOn (penned a s) = answered (paperWord a) s
+pennedOn (penned a s) = answered (extentWord a) s
 
 -- `floppy_write_sheet`
 unfoldable pub writeSheetOn : List ℕ → List ℕ → List ℕ → Answered

@@ -24,7 +24,7 @@ use words::done_word;
 use words::flag_word;
 use words::geometry_word;
 use words::has_word;
-use words::paper_word;
+use words::extent_word;
 use words::receipt_word;
 use words::refusal_word;
 use words::wide;
@@ -244,7 +244,7 @@ pub extern "C" fn floppy_write_sheet(controller: &[u8], transfer: &[u8], sheet: 
         return refusal_word(Refusal::BadController);
     }
     let regs = decode(controller);
-    paper_word(write_parts(regs, &controller[NUMBERS..], transfer, sheet))
+    extent_word(write_parts(regs, &controller[NUMBERS..], transfer, sheet))
 }
 
 // Makes the bytes the controller of a sheet, which all of `sheet` is, with no disk, whatever they were. Its unread data are laid from the transfer

@@ -11,7 +11,7 @@ use Rattle.fields.specs.Refusals.{numberOf}
 use Rattle.fields.specs.declared.refusal.Refusal.{Refusal}
 use Rattle.fields.specs.declared.refusal.Refusal.the-variants.{BadController, BadStore, ShortImage, NotAnImage, NotATrack}
 use Rattle.fields.specs.declared.refusal.Refusal.the-variants.{TooManyTracks, TooManySectors, NoRoom, NoTransferRoom, LongInput}
-use Rattle.fields.specs.declared.refusal.Refusal.the-variants.{BadSheet, ShortBuffer}
+use Rattle.fields.specs.declared.refusal.Refusal.the-variants.{BadSheet, NoImage, ShortBuffer}
 use Rattle.store.specs.declared.answer.Done.{Done}
 use Rattle.store.specs.declared.answer.Done.the-variants as done
 use Rattle.store.proofs.Checks.{transfer-in}
@@ -83,6 +83,7 @@ number-some NoRoom = omega arith
 number-some NoTransferRoom = omega arith
 number-some LongInput = omega arith
 number-some BadSheet = omega arith
+number-some NoImage = omega arith
 number-some ShortBuffer = omega arith
 
 pub refusal-fails : (why : Refusal) → isAnswer (refusalWord why) ≡ false

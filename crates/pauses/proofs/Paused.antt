@@ -22,9 +22,10 @@ use Rattle.registers.specs.Ports.{changeDisk}
 use Rattle.registers.specs.View.{settingOf, slotIf, insideOf, frontOf}
 use Rattle.registers.proofs.Numbers.{possible-in, until-in, until-long}
 use Rattle.sending.specs.Calls.{impossibleWith}
-use Rattle.sheet.specs.declared.writing.Paper.the-variants as paper
+use Rattle.store.specs.declared.answer.Extent.the-variants as extent
+use Rattle.store.specs.Calls.{penned, pennedTo}
 use Rattle.sheet.specs.Sheets.{boxesOf, paperOf, sheetOf, wrongBoxes, worldIn, Writable}
-use Rattle.sheet.specs.Calls.{longestSheet, boxesSeen, penned, sheetWritten, heldFor, regsFor, takenFrom, resuming, sheetRead}
+use Rattle.sheet.specs.Calls.{longestSheet, boxesSeen, sheetWritten, heldFor, regsFor, takenFrom, resuming, sheetRead}
 use Rattle.sheet.proofs.Gives.{gives-seen, gives-possible, seen-right, gives-nine, gives-seven, gives-held, gives-taken}
 use Rattle.sheet.proofs.Lengths.{sheet-most}
 use Rattle.sheet.proofs.Rounds.{sheet-back, accepted-right, accepted-empty, accepted-index}
@@ -88,8 +89,8 @@ module _ (k : Host) (s : Sound k) where
 
   -- It is written where it fits, and never refused with 1.
   pub paused-written : (buf : List ℕ) → length (sheetOf (seen k)) ≤ length buf
-      → sheetWritten R (k .floppy .held) (k .transfer) buf ≡ penned (paper.Of (length (sheetOf (seen k)))) (over buf 0 (sheetOf (seen k)))
-  unfolding sheetWritten impossibleWith
+      → sheetWritten R (k .floppy .held) (k .transfer) buf ≡ penned (extent.Of (length (sheetOf (seen k)))) (over buf 0 (sheetOf (seen k)))
+  unfolding sheetWritten impossibleWith pennedTo
   paused-written buf h =
       rw (eq-eqb (length (k .floppy .held)) mostHeld (s .held), s .possible, sheet-same, le-leb (length (sheetOf (seen k))) (length buf) h) refl
 

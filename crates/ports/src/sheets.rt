@@ -4,7 +4,7 @@ use fields::HELD;
 use floppy::Changed;
 use floppy::Floppy;
 use sheet::LONGEST;
-use sheet::Paper;
+use store::Extent;
 use store::Done;
 
 // What is overwritten holds nothing but this byte.
@@ -48,11 +48,11 @@ fn read_back(written: &[u8], transfer: &mut [u8]) -> Changed {
 fn rewritten(floppy: Floppy, transfer: &mut [u8]) -> Changed {
     let mut paper = [0u8; LONGEST];
     match sheet::write(floppy, transfer, &mut paper) {
-        Paper::Refused(why) => Changed {
+        Extent::Refused(why) => Changed {
             done: Done::Refused(why),
             floppy,
         },
-        Paper::Of(n) => read_back(buffer::part(&paper, 0, n as usize), transfer),
+        Extent::Of(n) => read_back(buffer::part(&paper, 0, n as usize), transfer),
     }
 }
 

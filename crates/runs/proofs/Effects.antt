@@ -18,7 +18,7 @@ use Rattle.fields.specs.declared.id.SectorId.{SectorId}
 use Rattle.fields.specs.declared.refusal.Refusal.{Refusal}
 use Rattle.fields.specs.declared.refusal.Refusal.the-variants.{BadController, BadStore, ShortImage, NotAnImage, NotATrack}
 use Rattle.fields.specs.declared.refusal.Refusal.the-variants.{TooManyTracks, TooManySectors, NoRoom, NoTransferRoom, LongInput}
-use Rattle.fields.specs.declared.refusal.Refusal.the-variants.{BadSheet, ShortBuffer}
+use Rattle.fields.specs.declared.refusal.Refusal.the-variants.{BadSheet, NoImage, ShortBuffer}
 use Rattle.fields.proofs.Tests.{never}
 use Rattle.store.specs.Find.{Found, nothing, found}
 use Rattle.store.specs.Search.{sectorAt, sectorByIndex, readAt}
@@ -54,6 +54,7 @@ MayRefuse Bad NoRoom = Unit {0}
 MayRefuse Bad NoTransferRoom = Unit {0}
 MayRefuse Bad LongInput = ⊥
 MayRefuse Bad BadSheet = ⊥
+MayRefuse Bad NoImage = ⊥
 MayRefuse Bad ShortBuffer = ⊥
 
 -- what is in a drive: a store that is refused is refused for itself

@@ -6,7 +6,7 @@ use mathlib.Core.Bool.{Bool, true, false, not}
 use mathlib.Core.List.{List, [], _∷_, _++_, append-assoc, append-nil}
 use lib.ListN.{length, take, length-append}
 use lib.Seq.{length-take-le, slice}
-use borrow.Author.Tests.{le-leb, lt-leb, not-true, not-false}
+use borrow.Author.Tests.{not-true, not-false}
 use Rattle.buffer.specs.Over.{over}
 use Rattle.buffer.proofs.Overs.{over-over}
 use Rattle.fields.specs.declared.refusal.Refusal.the-variants.{BadController, ShortBuffer}
@@ -17,8 +17,10 @@ use Rattle.registers.specs.View.{writingIf, insideOf, frontOf}
 use Rattle.sending.specs.Calls.{impossibleWith}
 use Rattle.layout.specs.Layout.{flagByte, seekByte}
 use Rattle.sheet.specs.Sheets.{highFor, boxFor, writeBox, sheetVersion, boxesOf, boxesFor, paperOf, sheetOf}
-use Rattle.sheet.specs.Calls.{boxesSeen, penned, sheetWritten}
-use Rattle.sheet.specs.declared.writing.Paper.the-variants.{Of, Refused}
+use Rattle.store.specs.Calls.{penned}
+use Rattle.store.proofs.Pens.{penned-short, penned-whole}
+use Rattle.store.specs.declared.answer.Extent.the-variants.{Of, Refused}
+use Rattle.sheet.specs.Calls.{boxesSeen, sheetWritten}
 use Rattle.sheet.proofs.Lengths.{write-room, Known}
 
 -- two parts, the second just behind the first
@@ -137,8 +139,8 @@ module _ (r : Regs) (h x s : List ℕ) where
     -- a buffer that is too short, and one that is not
     pub written-short : length s < n → penned (Refused ShortBuffer) s ≡ sheetWritten r h x s
     unfolding sheetWritten
-    written-short k = let t = lt-leb (length (sheetOf (boxesSeen r h x))) (length s) (omega arith) in rw (e, t)
+    written-short k = rw e (penned-short (sheetOf (boxesSeen r h x)) s n l k)
 
     pub written-whole : (s′ : List ℕ) → n ≤ length s → s′ ≡ over s 0 (sheetOf (boxesSeen r h x)) → penned (Of n) s′ ≡ sheetWritten r h x s
     unfolding sheetWritten
-    written-whole s′ k q = let t = le-leb (length (sheetOf (boxesSeen r h x))) (length s) (omega arith) in rw (e, t) (λ i. penned (Of (l i)) (q i))
+    written-whole s′ k q = rw e (penned-whole (sheetOf (boxesSeen r h x)) s n l s′ k q)

@@ -9,18 +9,18 @@ use lib.Dec.{leb}
 use Rattle.buffer.specs.Over.{over}
 use Rattle.fields.specs.Capacities.{mostTransfer, mostHeld}
 use Rattle.fields.specs.Refusals.{Result, refused, good, need, after}
-use Rattle.fields.specs.declared.refusal.Refusal.the-variants.{BadController, NoTransferRoom, ShortBuffer}
+use Rattle.fields.specs.declared.refusal.Refusal.the-variants.{BadController, NoTransferRoom}
 use Rattle.store.specs.Store.{transferRoom}
 use Rattle.store.specs.declared.answer.Done.{Done}
 use Rattle.store.specs.declared.answer.Done.the-variants as done
+use Rattle.store.specs.declared.answer.Extent.the-variants as extent
+use Rattle.store.specs.Calls.{Penned, penned, pennedTo}
 use Rattle.registers.specs.declared.regs.Regs.{Regs}
 use Rattle.registers.specs.declared.regs.Pending.{Pending}
 use Rattle.registers.specs.declared.regs.Switched.{Switched}
 use Rattle.registers.specs.Boxes.{Empty, Writing, World}
 use Rattle.registers.specs.View.{insideOf, frontOf}
 use Rattle.sending.specs.Calls.{impossibleWith}
-use Rattle.sheet.specs.declared.writing.Paper.{Paper}
-use Rattle.sheet.specs.declared.writing.Paper.the-variants as paper
 use Rattle.sheet.specs.Sheets.{sheetOf, wrongBoxes, worldIn}
 
 -- the longest sheet: 31 bytes of numbers and lengths, a command of 8, a reply of 7, all data that can be lent, a write that lacks one byte
@@ -40,19 +40,10 @@ pub record Longest : Type 0 where
 abbrev pub boxesSeen : Regs → List ℕ → List ℕ → World
 boxesSeen r h x = record { inside = insideOf r h Empty; front = frontOf r x }
 
--- the answer, and the buffer that the sheet is written to
-pub data Penned : Type 0 where
-  penned : Paper → List ℕ → Penned
-
--- the sheet at the buffer's start, and how long it is; 13 where it does not fit
-abbrev pub pennedIf : Bool → List ℕ → List ℕ → Penned
-pennedIf true sheet s = penned (paper.Of (length sheet)) (over s 0 sheet)
-pennedIf false sheet s = penned (paper.Refused ShortBuffer) s
-
--- 1 first
+-- the sheet at the buffer's start, but 1 first
 abbrev pub unlessWrong : Bool → List ℕ → List ℕ → Penned
-unlessWrong true sheet s = penned (paper.Refused BadController) s
-unlessWrong false sheet s = pennedIf (leb (length sheet) (length s)) sheet s
+unlessWrong true sheet s = penned (extent.Refused BadController) s
+unlessWrong false sheet s = pennedTo sheet s
 
 unfoldable pub sheetWritten : Regs → List ℕ → List ℕ → List ℕ → Penned
 sheetWritten r h x s = unlessWrong (impossibleWith h x r) (sheetOf (boxesSeen r h x)) s

@@ -5,7 +5,6 @@ mod writing;
 pub use reading::Places;
 pub use reading::read;
 pub use writing::LONGEST;
-pub use writing::Paper;
 pub use writing::write;
 pub use writing::write_parts;
 

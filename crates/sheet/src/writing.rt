@@ -7,6 +7,7 @@ use layout::flag_byte;
 use layout::seek_byte;
 use registers::Pending;
 use registers::Regs;
+use store::Extent;
 ghost use mathlib.Core.Path.{_≡_};
 ghost use mathlib.Core.Bool.{true, false, cond};
 ghost use mathlib.Core.List.{[], _∷_};
@@ -14,20 +15,15 @@ ghost use Prim.Native.Nat.{_+_, _-_, _≤_};
 ghost use lib.ListN.{length, take};
 ghost use lib.Seq.{slice};
 ghost use Rattle.buffer.specs.Over.{over};
+ghost use Rattle.store.specs.Calls.{penned};
 ghost use Rattle.registers.specs.View.{writingIf};
 ghost use Rattle.sending.specs.Calls.{impossibleWith};
 ghost use Rattle.layout.specs.Layout.{flagByte, seekByte};
 ghost use Rattle.sheet.specs.Sheets.{highFor, boxFor, writeBox, sheetVersion, sheetOf};
-ghost use Rattle.sheet.specs.Calls.{boxesSeen, penned, sheetWritten};
+ghost use Rattle.sheet.specs.Calls.{boxesSeen, sheetWritten};
 
 // No sheet is longer.
 pub const LONGEST: usize = 31 + 8 + 7 + TRANSFER + 5 + (HELD - 1);
-
-// How long the sheet is that was written, or why none was.
-pub enum Paper {
-    Of(u32),
-    Refused(Refusal),
-}
 
 // What stands before the command: the version, the length of the rest, and the boxes of motor, cylinder, seek state and ID index.
 fn opening(r: Regs, rest: usize) -> [u8; 18]
@@ -195,22 +191,22 @@ fn impossible_with(r: Regs, held: &[u8], transfer: &[u8]) -> bool
 
 // Writes the sheet of registers and held bytes to the buffer's start; bytes behind it stay. 1 for numbers that no
 // controller has, then 13 for a buffer that is too short; both leave it as it came.
-pub fn write_parts(r: Regs, held: &[u8], transfer: &[u8], sheet: &mut [u8]) -> Paper
+pub fn write_parts(r: Regs, held: &[u8], transfer: &[u8], sheet: &mut [u8]) -> Extent
     ensures { λ a. ⌜ penned a (now (sheet .exit)) ≡ sheetWritten r (now (held .entry)) (now (transfer .entry)) (now (sheet .entry)) ⌝ }
 {
     if impossible_with(r, held, transfer) {
-        return Paper::Refused(Refusal::BadController);
+        return Extent::Refused(Refusal::BadController);
     }
     let n = size(r);
     if sheet.len() < n {
-        return Paper::Refused(Refusal::ShortBuffer);
+        return Extent::Refused(Refusal::ShortBuffer);
     }
     lay(r, held, transfer, n, sheet);
-    Paper::Of(n as u32)
+    Extent::Of(n as u32)
 }
 
 // The same for a whole controller.
-pub fn write(floppy: Floppy, transfer: &[u8], sheet: &mut [u8]) -> Paper
+pub fn write(floppy: Floppy, transfer: &[u8], sheet: &mut [u8]) -> Extent
     ensures { λ a. ⌜ penned a (now (sheet .exit)) ≡ sheetWritten (floppy .regs) (floppy .held) (now (transfer .entry)) (now (sheet .entry)) ⌝ }
 {
     let regs = floppy.regs;

@@ -6,3 +6,4 @@ pub mod Founds
 pub mod Rounds
 pub mod Leaves
 pub mod Indexes
+pub mod Pens

@@ -2,7 +2,7 @@
 use mathlib.Core.Path.{_≡_}
 use Prim.Native.Nat.{ℕ}
 use mathlib.Core.List.{List, []}
-use mathlib.Core.Bool.{not}
+use mathlib.Core.Bool.{Bool, true, false, not}
 use lib.ListN.{length}
 use lib.Dec.{eqb, leb}
 use Rattle.buffer.specs.Over.{over}
@@ -12,7 +12,7 @@ use Rattle.fields.specs.Model.{Sector, Disk, sectorCount, byteCount}
 use Rattle.image.specs.Dsk.{dskOf, Dsk}
 use Rattle.fields.specs.declared.id.SectorId.{SectorId}
 use Rattle.fields.specs.declared.refusal.Refusal.{Refusal}
-use Rattle.fields.specs.declared.refusal.Refusal.the-variants.{BadStore, TooManyTracks, TooManySectors, NoRoom}
+use Rattle.fields.specs.declared.refusal.Refusal.the-variants.{BadStore, TooManyTracks, TooManySectors, NoRoom, ShortBuffer}
 use Rattle.store.specs.Find.{Found, nothing, found}
 use Rattle.store.specs.Search.{sectorAt, sectorByIndex, greatest, isSide0}
 use Rattle.store.specs.Store.{tableLength, roomOf, tableOf, dataOf, diskOf}
@@ -25,6 +25,8 @@ use Rattle.store.specs.declared.answer.IdFound.{IdFound}
 use Rattle.store.specs.declared.answer.IdFound.the-variants as named
 use Rattle.store.specs.declared.answer.Done.{Done}
 use Rattle.store.specs.declared.answer.Done.the-variants as done
+use Rattle.store.specs.declared.answer.Extent.{Extent}
+use Rattle.store.specs.declared.answer.Extent.the-variants as extent
 
 -- ---- Looking
 
@@ -99,3 +101,17 @@ pub record Loaded (image t b : List ℕ) : Type 0 where
   pub dsk : Dsk
   pub read : dskOf image ≡ good dsk
   pub holds : diskOf t b ≡ good (dsk .disk)
+
+-- ---- Writing out
+
+-- the answer, and the buffer that is written to
+pub data Penned : Type 0 where
+  penned : Extent → List ℕ → Penned
+
+-- bytes at a buffer's start, and how many they are; 13 where they do not fit, and the buffer stays
+abbrev pub pennedIf : Bool → List ℕ → List ℕ → Penned
+pennedIf true x s = penned (extent.Of (length x)) (over s 0 x)
+pennedIf false x s = penned (extent.Refused ShortBuffer) s
+
+unfoldable pub pennedTo : List ℕ → List ℕ → Penned
+pennedTo x s = pennedIf (leb (length x) (length s)) x s

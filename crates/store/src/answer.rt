@@ -25,3 +25,9 @@ pub enum Done {
     Good,
     Refused(Refusal),
 }
+
+// How many bytes were written, or would be, or why none are.
+pub enum Extent {
+    Of(u32),
+    Refused(Refusal),
+}

@@ -5,6 +5,7 @@ mod check;
 mod find;
 
 pub use answer::Done;
+pub use answer::Extent;
 pub use answer::Geometry;
 pub use answer::Has;
 pub use answer::IdFound;

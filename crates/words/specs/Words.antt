@@ -15,8 +15,8 @@ use Rattle.registers.specs.declared.regs.Byte.{Byte}
 use Rattle.registers.specs.declared.regs.Byte.the-variants as byte
 use Rattle.registers.specs.declared.regs.Flag.{Flag}
 use Rattle.registers.specs.declared.regs.Flag.the-variants as flag
-use Rattle.sheet.specs.declared.writing.Paper.{Paper}
-use Rattle.sheet.specs.declared.writing.Paper.the-variants as paper
+use Rattle.store.specs.declared.answer.Extent.{Extent}
+use Rattle.store.specs.declared.answer.Extent.the-variants as extent
 
 abbrev pub refusalWord : Refusal → ℕ
 refusalWord why = 256 * numberOf why
@@ -52,7 +52,7 @@ abbrev pub geometryWord : Geometry → ℕ
 geometryWord (geometry.Of c0 c1) = c0 + 65536 * c1
 geometryWord (geometry.Refused why) = refusalWord why
 
--- the length of the sheet in bits 32 to 63
-abbrev pub paperWord : Paper → ℕ
-paperWord (paper.Of n) = n * 2 ^ 32
-paperWord (paper.Refused why) = refusalWord why
+-- the length of what is written in bits 32 to 63
+abbrev pub extentWord : Extent → ℕ
+extentWord (extent.Of n) = n * 2 ^ 32
+extentWord (extent.Refused why) = refusalWord why

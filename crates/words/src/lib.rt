@@ -6,7 +6,7 @@ pub use word::done_word;
 pub use word::flag_word;
 pub use word::geometry_word;
 pub use word::has_word;
-pub use word::paper_word;
+pub use word::extent_word;
 pub use word::receipt_word;
 pub use word::refusal_word;
 pub use word::wide;

@@ -3,12 +3,12 @@ use fields::Refusal;
 use registers::Byte;
 use registers::Flag;
 use registers::Receipt;
-use sheet::Paper;
+use store::Extent;
 use store::Done;
 use store::Geometry;
 use store::Has;
 ghost use mathlib.Core.Path.{_≡_};
-ghost use Rattle.words.specs.Words.{refusalWord, boolWord, byteWord, flagWord, doneWord, receiptWord, hasWord, geometryWord, paperWord};
+ghost use Rattle.words.specs.Words.{refusalWord, boolWord, byteWord, flagWord, doneWord, receiptWord, hasWord, geometryWord, extentWord};
 
 pub fn wide(b: u8) -> u64
     ensures { λ r. ⌜ r ≡ b ⌝ }
@@ -83,11 +83,11 @@ pub fn geometry_word(a: Geometry) -> u64
     }
 }
 
-pub fn paper_word(a: Paper) -> u64
-    ensures { λ r. ⌜ r ≡ paperWord a ⌝ }
+pub fn extent_word(a: Extent) -> u64
+    ensures { λ r. ⌜ r ≡ extentWord a ⌝ }
 {
     match a {
-        Paper::Of(n) => (n as u64) * 4294967296,
-        Paper::Refused(why) => refusal_word(why),
+        Extent::Of(n) => (n as u64) * 4294967296,
+        Extent::Refused(why) => refusal_word(why),
     }
 }

@@ -1,8 +1,8 @@
-use Rattle.words.specs.Words.{paperWord}
+use Rattle.words.specs.Words.{extentWord}
 use mathlib.Core.Path.{sym, ap, _∙_}
 use borrow.Author.Needs.{needs}
-use Rattle.words.proofs.word.paper_word.Statement.{statement}
-use Rattle.words.proofs.word.paper_word.Tie as tie
+use Rattle.words.proofs.word.extent_word.Statement.{statement}
+use Rattle.words.proofs.word.extent_word.Tie as tie
 
 enum-known-a : tie.Need-enum-known-a
 enum-known-a c = search needs
@@ -20,10 +20,10 @@ refusal-word-requires : tie.Need-refusal-word-requires
 refusal-word-requires c κs = search needs
 
 returns : tie.Need-returns
-returns c = ap paperWord (sym (c .before .a .given .1))
+returns c = ap extentWord (sym (c .before .a .given .1))
 
 returns-2 : tie.Need-returns-2
-returns-2 c = c .refusal-word .ensures ∙ ap paperWord (sym (c .before .before .a2 .given .1))
+returns-2 c = c .refusal-word .ensures ∙ ap extentWord (sym (c .before .before .a2 .given .1))
 
 pub paper-word-spec : {M : Type 1} → statement M
 paper-word-spec =
