@@ -1,0 +1,208 @@
+-- From what was met to the disk: it can be written exactly where each track fits and the table has room, and the shape is that of its image.
+use mathlib.Core.Path.{_≡_, refl, sym, ap, ap₂, _∙_}
+use Prim.Native.Nat.{ℕ, zero, suc, _+_, _-_, _*_, _≤_, _<_, max}
+use native.Mathlib.Omega.{arith}
+use mathlib.Core.List.{List, [], _∷_}
+use mathlib.Core.Bool.{Bool, true, false, not, cond, _&&_, _||_, or-false, or-assoc}
+use lib.ListN.{length}
+use lib.Dec.{eqb, leb, ltb}
+use borrow.Author.Tests.{le-leb, lt-leb, leb-true, ltb-true, lt-ltb, le-ltb, ltb-false, eqb-true, eq-eqb}
+use Rattle.fields.specs.Bytes.{byteAt}
+use Rattle.fields.specs.Model.{Track, Disk, total, trackBytes}
+use Rattle.fields.proofs.Tests.{never, and-fst, and-snd}
+use Rattle.store.specs.Store.{roomOf, sectorsAt, countAt, nextAt, trackSum, tracksAt, bytesAt, wellLaid}
+use Rattle.store.proofs.Rounds.{sizeIn}
+use Rattle.store.proofs.Checks.{kept, room-in}
+use Rattle.store.proofs.Founds.{sectors-count}
+use Rattle.disk.specs.Change.{earlier}
+use Rattle.disk.proofs.Holds.{sizes-are}
+use Rattle.home.specs.Home.{units, blockFor, cylindersOf, someTrack, sidesOf, imageFor, risingFrom, rising, sideOver1, sectorsOver29, trackOver65280, entriesOver204, unwritable}
+use Rattle.home.specs.Passes.{metNone, metWith, metAt, sidesIf, shapeBy, shapeIf, diskAt}
+use Rattle.home.specs.declared.measure.Met.{Met}
+use Rattle.home.specs.declared.measure.Shaped.the-variants as shaped
+use Rattle.fields.specs.declared.refusal.Refusal.the-variants.{NoImage}
+use Rattle.home.proofs.Sizes.{Each, Fine, block-length, is-rising, entries-few, all-fine, image-length}
+
+-- ---- the tracks of a table as a disk
+
+-- what is met of a disk's tracks
+unfoldable pub metOf : Met → Disk → Met
+metOf m [] = m
+metOf m (t ∷ ts) = metOf (metWith m (t .cylinder) (t .side) (length (t .sectors)) (trackBytes t)) ts
+
+pub met-disk : (t b : List ℕ) (m : Met) (at place k : ℕ) → place + bytesAt t at k ≤ length b → metAt t m at k ≡ metOf m (tracksAt t b at place k)
+unfolding metAt metOf tracksAt bytesAt
+met-disk t b m at place zero h = refl
+met-disk t b m at place (suc k) h =
+    let n : length (sectorsAt t b (at + 6) place (countAt t at)) ≡ countAt t at = sectors-count t b (at + 6) place (countAt t at) in
+    let s : sizeIn (sectorsAt t b (at + 6) place (countAt t at)) ≡ trackSum t at = sizes-are t b (at + 6) place (countAt t at) (omega arith) in
+    (λ i. metAt t (metWith m (byteAt t at) (byteAt t (at + 1)) (sym n i) (sym s i)) (nextAt t at) k)
+    ∙ met-disk t b _ (nextAt t at) (place + trackSum t at) k (omega arith)
+
+-- ---- cylinders, sides and length
+
+met-cylinders : (m : Met) (d : Disk) → metOf m d .cylinders ≡ max (m .cylinders) (cylindersOf d)
+unfolding metOf metWith cylindersOf
+met-cylinders m [] = omega arith
+met-cylinders m (t ∷ ts) = omega (arith, met-cylinders (metWith m (t .cylinder) (t .side) (length (t .sectors)) (trackBytes t)) ts)
+
+met-second : (m : Met) (d : Disk) → metOf m d .second ≡ (m .second || someTrack (λ t. eqb (t .side) 1) d)
+unfolding metOf metWith someTrack
+met-second m [] = sym (or-false (m .second))
+met-second m (t ∷ ts) = met-second _ ts ∙ or-assoc (m .second) (eqb (t .side) 1) (someTrack (λ t. eqb (t .side) 1) ts)
+
+met-length : (m : Met) (d : Disk) → metOf m d .long ≡ m .long + total (λ t. 256 + 256 * units (trackBytes t)) d
+unfolding metOf metWith total
+met-length m [] = omega arith
+met-length m (t ∷ ts) = omega (arith, met-length (metWith m (t .cylinder) (t .side) (length (t .sectors)) (trackBytes t)) ts)
+
+-- ---- whether each track fits
+
+-- cylinder and side as one number
+abbrev keyOf : Track → ℕ
+keyOf t = 256 * t .cylinder + t .side
+
+-- a track that fits
+record Fit (t : Track) : Type 0 where
+  side : t .side ≤ 1
+  sectors : length (t .sectors) ≤ 29
+  block : 256 + 256 * units (trackBytes t) ≤ 65280
+
+-- tracks that fit, and rise from a least number on
+unfoldable Fitting : ℕ → Disk → Type 0
+Fitting next [] = Unit {0}
+Fitting next (t ∷ ts) = (next ≤ keyOf t) × (Fit t × Fitting (keyOf t + 1) ts)
+
+-- all that were met fit: those before, and these
+met-fits : (m : Met) (d : Disk) → metOf m d .fits ≡ true → (m .fits ≡ true) × Fitting (m .next) d
+unfolding metOf metWith Fitting
+met-fits m [] h = (h, tt)
+met-fits m (t ∷ ts) h =
+    let r = met-fits (metWith m (t .cylinder) (t .side) (length (t .sectors)) (trackBytes t)) ts h in
+    let x : Bool = leb (m .next) (keyOf t) in
+    let y : Bool = leb (t .side) 1 in
+    let z : Bool = leb (length (t .sectors)) 29 in
+    let w : Bool = leb (256 + 256 * units (trackBytes t)) 65280 in
+    let a : (((m .fits && x) && y) && z) ≡ true = and-fst (((m .fits && x) && y) && z) w (r .0) in
+    let b : ((m .fits && x) && y) ≡ true = and-fst ((m .fits && x) && y) z a in
+    let c : (m .fits && x) ≡ true = and-fst (m .fits && x) y b in (
+      and-fst (m .fits) x c,
+      (
+        leb-true _ _ (and-snd (m .fits) x c),
+        (
+          record {
+            side = leb-true _ _ (and-snd (m .fits && x) y b);
+            sectors = leb-true _ _ (and-snd ((m .fits && x) && y) z a);
+            block = leb-true _ _ (and-snd (((m .fits && x) && y) && z) w (r .0));
+          },
+          r .1,
+        ),
+      ),
+    )
+
+fits-met : (m : Met) (d : Disk) → m .fits ≡ true → Fitting (m .next) d → metOf m d .fits ≡ true
+unfolding metOf metWith Fitting
+fits-met m [] h f = h
+fits-met m (t ∷ ts) h f =
+    fits-met _ ts (simp (h, le-leb _ _ (f .0), le-leb _ _ (f .1 .0 .side), le-leb _ _ (f .1 .0 .sectors), le-leb _ _ (f .1 .0 .block))) (f .1 .1)
+
+-- ---- a disk whose tracks fit, and one that can be written
+
+-- where sides are 0 and 1, a track is earlier than another exactly where its number is less
+key-earlier : (t u : Track) → t .side ≤ 1 → u .side ≤ 1 → keyOf t + 1 ≤ keyOf u → earlier t u ≡ true
+key-earlier t u h k l = by (ltb (t .cylinder) (u .cylinder)) (ltb-false (t .cylinder) (u .cylinder))
+  where
+    by : (v : Bool) → (v ≡ false → u .cylinder ≤ t .cylinder) → v || (eqb (t .cylinder) (u .cylinder) && ltb (t .side) (u .side)) ≡ true
+    by true f = refl
+    by false f =
+        let m : u .cylinder ≤ t .cylinder = f refl in
+        let e : t .cylinder ≡ u .cylinder = omega arith in
+        let s : t .side < u .side = omega arith in
+        rw (eq-eqb _ _ e, lt-ltb _ _ s) refl
+
+earlier-key : (t u : Track) → t .side ≤ 1 → earlier t u ≡ true → keyOf t + 1 ≤ keyOf u
+earlier-key t u h e = by (ltb (t .cylinder) (u .cylinder)) (ltb-true (t .cylinder) (u .cylinder)) e
+  where
+    by : (v : Bool) → (v ≡ true → t .cylinder < u .cylinder) → v || (eqb (t .cylinder) (u .cylinder) && ltb (t .side) (u .side)) ≡ true → keyOf t + 1 ≤ keyOf u
+    by true f q = let l : t .cylinder < u .cylinder = f refl in omega arith
+    by false f q =
+        let c : t .cylinder ≡ u .cylinder = eqb-true _ _ (and-fst (eqb (t .cylinder) (u .cylinder)) (ltb (t .side) (u .side)) q) in
+        let s : t .side < u .side = ltb-true _ _ (and-snd (eqb (t .cylinder) (u .cylinder)) (ltb (t .side) (u .side)) q) in
+        omega arith
+
+fit-rising : (t : Track) (ts : Disk) → t .side ≤ 1 → Fitting (keyOf t + 1) ts → risingFrom t ts ≡ true
+unfolding risingFrom Fitting
+fit-rising t [] h f = refl
+fit-rising t (u ∷ us) h f = rw (key-earlier t u h (f .1 .0 .side) (f .0)) (fit-rising u us (f .1 .0 .side) (f .1 .1))
+
+-- a test that no track that fits passes
+none-fits : (p : Track → Bool) → ((t : Track) → Fit t → p t ≡ false) → (n : ℕ) (d : Disk) → Fitting n d → someTrack p d ≡ false
+unfolding someTrack Fitting
+none-fits p f n [] g = refl
+none-fits p f n (t ∷ ts) g = rw (f t (g .1 .0)) (none-fits p f (keyOf t + 1) ts (g .1 .1))
+
+-- tracks that fit and rise, with few entries, can be written
+fit-can : (d : Disk) → Fitting 0 d → cylindersOf d * sidesOf d ≤ 204 → unwritable d ≡ false
+unfolding unwritable rising sideOver1 entriesOver204 sectorsOver29 trackOver65280
+fit-can d f l =
+    let block : (t : Track) → Fit t → ltb 65280 (length (blockFor t)) ≡ false =
+    λ t g. let m : length (blockFor t) ≤ 65280 = omega (arith, block-length t (g .sectors), g .block) in le-ltb 65280 (length (blockFor t)) m in
+    rw (
+      rises d f,
+      none-fits (λ t. ltb 1 (t .side)) (λ t g. le-ltb _ _ (g .side)) 0 d f,
+      le-ltb 204 _ l,
+      none-fits (λ t. ltb 29 (length (t .sectors))) (λ t g. le-ltb _ _ (g .sectors)) 0 d f,
+      none-fits (λ t. ltb 65280 (length (blockFor t))) block 0 d f,
+    ) refl
+  where
+    rises : (x : Disk) → Fitting 0 x → rising x ≡ true
+    rises [] g = unfold rising in refl
+    rises (t ∷ ts) g = unfold rising Fitting in fit-rising t ts (g .1 .0 .side) (g .1 .1)
+
+-- and tracks of a disk that can be written fit and rise
+can-fit : (sides n : ℕ) (t : Track) (ts : Disk) → t .side ≤ 1 → risingFrom t ts ≡ true → Each (Fine sides n) ts → Fitting (keyOf t + 1) ts
+unfolding risingFrom Each Fitting
+can-fit sides n t [] h r f = tt
+can-fit sides n t (u ∷ us) h r f = (
+  earlier-key t u h (and-fst (earlier t u) (risingFrom u us) r),
+  (
+    record { side = f .0 .side; sectors = f .0 .sectors; block = f .0 .block },
+    can-fit sides n u us (f .0 .side) (and-snd (earlier t u) (risingFrom u us) r) (f .1),
+  ),
+)
+
+can-fitting : (sides n : ℕ) (d : Disk) → rising d ≡ true → Each (Fine sides n) d → Fitting 0 d
+unfolding rising Each Fitting
+can-fitting sides n [] r f = tt
+can-fitting sides n (t ∷ ts) r f =
+    (omega arith, (record { side = f .0 .side; sectors = f .0 .sectors; block = f .0 .block }, can-fit sides n t ts (f .0 .side) r (f .1)))
+
+-- ---- the shape
+
+-- what was met of a disk gives the shape of its image, or 12
+pub shape-disk : (d : Disk) → shapeBy (metOf metNone d) ≡ shapeIf (unwritable d) d
+unfolding shapeBy
+shape-disk d = by (unwritable d) refl
+  where
+    sides : sidesIf (metOf metNone d .second) ≡ sidesOf d
+    sides = unfold sidesOf in ap sidesIf (met-second metNone d)
+
+    cylinders : metOf metNone d .cylinders ≡ cylindersOf d
+    cylinders = met-cylinders metNone d ∙ omega arith
+
+    by : (v : Bool) → unwritable d ≡ v → cond (metOf metNone d .fits && leb (metOf metNone d .cylinders * sidesIf (metOf metNone d .second)) 204)
+        (shaped.Of (record { cylinders = metOf metNone d .cylinders; sides = sidesIf (metOf metNone d .second); long = metOf metNone d .long })) (shaped.Refused NoImage)
+        ≡ shapeIf v d
+    by false e =
+        let fits : metOf metNone d .fits ≡ true = fits-met metNone d refl (can-fitting (sidesOf d) (cylindersOf d * sidesOf d) d (is-rising d e) (all-fine d e)) in
+        let long : metOf metNone d .long ≡ length (imageFor d) = met-length metNone d ∙ sym (image-length d e) in
+        rw (sides, cylinders, fits, le-leb _ _ (entries-few d e), long) refl
+    by true e = rw (sides, cylinders) (other (metOf metNone d .fits && leb (cylindersOf d * sidesOf d) 204) refl)
+      where
+        other : (v : Bool) → (metOf metNone d .fits && leb (cylindersOf d * sidesOf d) 204) ≡ v
+            → cond v (shaped.Of (record { cylinders = cylindersOf d; sides = sidesOf d; long = metOf metNone d .long })) (shaped.Refused NoImage) ≡ shaped.Refused NoImage
+        other false q = refl
+        other true q =
+            let f : Fitting 0 d = met-fits metNone d (and-fst (metOf metNone d .fits) (leb (cylindersOf d * sidesOf d) 204) q) .1 in
+            let no : unwritable d ≡ false = fit-can d f (leb-true _ _ (and-snd (metOf metNone d .fits) (leb (cylindersOf d * sidesOf d) 204) q)) in
+            never (cc)
