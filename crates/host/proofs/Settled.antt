@@ -12,7 +12,7 @@ use Rattle.layout.specs.Layout.{controllerLength}
 use Rattle.sheet.specs.Calls.{longestSheet}
 use Rattle.words.specs.Words.{geometryWord, hasWord}
 use Rattle.host.specs.Calls.{motorOn, trackOn, diskOn, Answered, answered, newOn, setMotorOn, setDiskOn, statusOn, readOn, Sending, sending, writeOn, worded, partOn}
-use Rattle.host.specs.Calls.{writeSheetOn, TakenUp, takenUp, readSheetOn}
+use Rattle.host.specs.Calls.{writeSheetOn, TakenUp, takenUp, readSheetOn, imageLengthOn, writeImageOn}
 
 -- ---- by what a promise names
 
@@ -96,6 +96,12 @@ module _ (r r′ : ℕ) where
 
       pub disk-new-formatted-settled : outcome r u v ≡ worded (freshOf t b) → outcome r′ u′ v′ ≡ worded (freshOf t b) → (r ≡ r′) × ((u ≡ u′) × (v ≡ v′))
       disk-new-formatted-settled = outcome-settled (worded (freshOf t b)) r r′ u u′ v v′
+
+    pub image-length-settled : r ≡ imageLengthOn t b → r′ ≡ imageLengthOn t b → r ≡ r′
+    image-length-settled = one-outcome r r′ (imageLengthOn t b)
+
+    pub write-image-settled : (s m m′ : List ℕ) → answered r m ≡ writeImageOn t b s → answered r′ m′ ≡ writeImageOn t b s → (r ≡ r′) × (m ≡ m′)
+    write-image-settled s = answered-settled (writeImageOn t b s) r r′
 
     pub geometry-settled : r ≡ geometryWord (geometryOf (diskOf t b)) → r′ ≡ geometryWord (geometryOf (diskOf t b)) → r ≡ r′
     geometry-settled = one-outcome r r′ (geometryWord (geometryOf (diskOf t b)))

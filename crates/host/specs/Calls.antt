@@ -31,6 +31,7 @@ use Rattle.registers.specs.Calls.{statusRead, dataRead, motorSet, diskSet, moto
 use Rattle.commands.specs.Lent.{Left, left}
 use Rattle.sending.specs.Calls.{dataWrite}
 use Rattle.floppy.specs.Calls.{newFloppy, Wrote, wrote}
+use Rattle.home.specs.Calls.{imageIn, extentOf, writtenAs}
 use Rattle.layout.specs.Layout.{controllerLength, numbersFor, floppyBytes, regsAt, heldAt, regsIn}
 use Rattle.sheet.specs.Calls.{sheetWritten, Resuming, resuming, sheetRead}
 use Rattle.words.specs.Words.{refusalWord, byteWord, flagWord, doneWord, receiptWord, extentWord}
@@ -156,6 +157,14 @@ readSheetOn l x s =
 -- load and fresh format: what they leave, with a word for the answer
 abbrev pub worded : Outcome Done → Outcome ℕ
 worded (outcome a t b) = outcome (doneWord a) t b
+
+-- `disk_image_length`
+unfoldable pub imageLengthOn : List ℕ → List ℕ → ℕ
+imageLengthOn t b = extentWord (extentOf (imageIn t b))
+
+-- `disk_write_image`
+unfoldable pub writeImageOn : List ℕ → List ℕ → List ℕ → Answered
+writeImageOn t b s = pennedOn (writtenAs (imageIn t b) s)
 
 -- the place of a sector's bytes in bits 32 to 63, their number in bits 0 to 31; 0 where there is none or 2 applies
 abbrev pub partWord : Place → ℕ

@@ -21,10 +21,10 @@ use store::Place;
 use store::TABLE;
 use words::byte_word;
 use words::done_word;
+use words::extent_word;
 use words::flag_word;
 use words::geometry_word;
 use words::has_word;
-use words::extent_word;
 use words::receipt_word;
 use words::refusal_word;
 use words::wide;
@@ -38,7 +38,7 @@ ghost use Rattle.layout.specs.Layout.{controllerLength};
 ghost use Rattle.sheet.specs.Calls.{longestSheet};
 ghost use Rattle.words.specs.Words.{geometryWord, hasWord};
 ghost use Rattle.host.specs.Calls.{answered, toldOn, switchedOn, writtenOn, newOn, setMotorOn, motorOn, trackOn, setDiskOn, diskOn, statusOn};
-ghost use Rattle.host.specs.Calls.{readOn, sending, writeOn, writeSheetOn, takenUp, readSheetOn, worded, partOn};
+ghost use Rattle.host.specs.Calls.{readOn, sending, writeOn, writeSheetOn, takenUp, readSheetOn, worded, imageLengthOn, writeImageOn, partOn};
 
 // ---- lengths
 
@@ -280,6 +280,25 @@ pub extern "C" fn disk_new_formatted(table: &mut [u8], bytes: &mut [u8]) -> u64
     ensures { λ r. ⌜ outcome r (now (table .exit)) (now (bytes .exit)) ≡ worded (freshOf (now (table .entry)) (now (bytes .entry))) ⌝ }
 {
     done_word(loading::new_formatted(table, bytes))
+}
+
+// Answers how long the image of the disk is that `disk_write_image` writes, in bits 32 to 63. 2 for bytes that hold no disk, then 12 for a disk that
+// has no extended image.
+#[no_mangle]
+pub extern "C" fn disk_image_length(table: &[u8], bytes: &[u8]) -> u64
+    ensures { λ r. ⌜ r ≡ imageLengthOn (now (table .entry)) (now (bytes .entry)) ⌝ }
+{
+    extent_word(home::image_length(table, bytes))
+}
+
+// Writes the disk as an extended image at the buffer's start, and answers its length in bits 32 to 63; bytes behind it stay. 2, 12, then 13 for a
+// buffer that is too short: it stays.
+#[no_mangle]
+pub extern "C" fn disk_write_image(table: &[u8], bytes: &[u8], image: &mut [u8]) -> u64
+    ensures { λ r. ⌜ answered r (now (image .exit))
+        ≡ writeImageOn (now (table .entry)) (now (bytes .entry)) (now (image .entry)) ⌝ }
+{
+    extent_word(home::write_image(table, bytes, image))
 }
 
 // Answers the greatest cylinder of side 0, and of the other sides in bits 16 to 23. 2 for bytes that hold no disk.

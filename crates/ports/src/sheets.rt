@@ -4,8 +4,8 @@ use fields::HELD;
 use floppy::Changed;
 use floppy::Floppy;
 use sheet::LONGEST;
-use store::Extent;
 use store::Done;
+use store::Extent;
 
 // What is overwritten holds nothing but this byte.
 const OTHER: u8 = 90;

@@ -29,8 +29,8 @@ part-write-parts-end c = omega (arith, here-long _ _ (c .before .before .formed 
 write-parts-requires : tie.Need-write-parts-requires
 write-parts-requires c κs = search needs
 
-paper-word-requires : tie.Need-paper-word-requires
-paper-word-requires c κs = search needs
+extent-word-requires : tie.Need-extent-word-requires
+extent-word-requires c κs = search needs
 
 same-length : tie.Need-same-length
 same-length c = search needs
@@ -50,6 +50,6 @@ floppy-write-sheet-spec =
     part-write-parts-start
     part-write-parts-end
     write-parts-requires
-    paper-word-requires
+    extent-word-requires
     same-length
     returns-2)

@@ -25,8 +25,8 @@ returns c = ap extentWord (sym (c .before .a .given .1))
 returns-2 : tie.Need-returns-2
 returns-2 c = c .refusal-word .ensures ∙ ap extentWord (sym (c .before .before .a2 .given .1))
 
-pub paper-word-spec : {M : Type 1} → statement M
-paper-word-spec =
+pub extent-word-spec : {M : Type 1} → statement M
+extent-word-spec =
     tie.close
     (tie.spec
     enum-known-a
