@@ -1,7 +1,7 @@
 /*
  * Reads a sector through the ports, changes it, saves it through the ports and reads it again, on a small image that
- * is made here. In the middle of the save the controller is written out as a sheet and taken up from it. It prints what
- * examples/save.rs prints.
+ * is made here. In the middle of the save the controller is written out as a sheet and taken up from it. At the end the
+ * disk goes home as an image. It prints what examples/save.rs prints.
  */
 #include <stdio.h>
 #include <stdlib.h>
@@ -119,6 +119,21 @@ static void pause_and_resume(void)
     printf("paused: a sheet of %d bytes\n", (int)length);
 }
 
+/* Writes the disk as an extended image, and says whether the disk that this loads as has these bytes in the sector. */
+static int go_home(const uint8_t id[4], const uint8_t *saved, size_t count)
+{
+    static uint8_t image[0x200 + SECTOR];
+    uint64_t word = disk_write_image(table, table_length, data, sizeof data, image, sizeof image);
+    size_t length = kafondiye_image_length(word);
+    answer(word);
+    printf("home: an image of %d bytes\n", (int)length);
+    memset(table, 0xff, table_length);
+    memset(data, 0xff, sizeof data);
+    answer(disk_new(image, length, table, table_length, data, sizeof data));
+    word = disk_sector(table, table_length, data, sizeof data, 0, 0, id[0], id[1], id[2], id[3]);
+    return kafondiye_length(word) == count && memcmp(data + kafondiye_place(word), saved, count) == 0;
+}
+
 /* What the library says of lengths, and the bytes for them. */
 static int lend(void)
 {
@@ -161,6 +176,9 @@ int main(void)
     if (count != length || memcmp(again, bytes, count) != 0)
         return EXIT_FAILURE;
     printf("what was read again is what was saved\n");
+    if (!go_home(id, bytes, length))
+        return EXIT_FAILURE;
+    printf("what came home is what was saved\n");
     free(controller);
     free(table);
     free(sheet);

@@ -1,5 +1,5 @@
 //! Reads a sector through the ports, changes it, saves it through the ports and reads it again. In the middle of the
-//! save the controller is written out as a sheet and taken up from it.
+//! save the controller is written out as a sheet and taken up from it. At the end the disk goes home as an image.
 //!
 //!     cargo run --example save [IMAGE]
 //!
@@ -56,6 +56,18 @@ fn run() -> Result<(), Box<dyn Error>> {
         return Err("what was read again is not what was saved".into());
     }
     println!("what was read again is what was saved");
+    let disk = controller.set_disk(None).ok_or("no disk is in the drive")?;
+    go_home(&disk, id, &new)
+}
+
+/// Writes the disk as an extended image, and looks for the sector on the disk that this loads as.
+fn go_home(disk: &Disk, id: SectorId, saved: &[u8]) -> Result<(), Box<dyn Error>> {
+    let image = disk.to_image()?;
+    println!("home: an image of {} bytes", image.len());
+    if Disk::from_image(&image)?.sector(0, 0, id) != Some(saved) {
+        return Err("what came home is not what was saved".into());
+    }
+    println!("what came home is what was saved");
     Ok(())
 }
 

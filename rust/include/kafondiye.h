@@ -31,7 +31,7 @@
 extern "C" {
 #endif
 
-/* Why a call was refused. No call answers 10, which belongs to a program that lists images, and none answers 12. */
+/* Why a call was refused. No call answers 10, which belongs to a program that lists images. */
 enum kafondiye_refusal {
     KAFONDIYE_NOT_REFUSED = 0,
     KAFONDIYE_BAD_CONTROLLER = 1,   /* no controller has these bytes, or its data exceed the transfer room */
@@ -44,6 +44,7 @@ enum kafondiye_refusal {
     KAFONDIYE_NO_ROOM = 8,          /* the disk's bytes would exceed the data room */
     KAFONDIYE_NO_TRANSFER_ROOM = 9, /* the bytes of a Read Data, or a sheet's unread data, exceed the transfer room */
     KAFONDIYE_BAD_SHEET = 11,       /* not a sheet, or no controller has what is in it */
+    KAFONDIYE_NO_IMAGE = 12,        /* the disk has no extended image: see disk_image_length */
     KAFONDIYE_SHORT_BUFFER = 13     /* a buffer is too short for what would be written to it */
 };
 
@@ -79,6 +80,12 @@ static inline size_t kafondiye_place(uint64_t word)
 
 /* How many bytes a sheet has, out of the answer of floppy_write_sheet: bits 32 to 63. */
 static inline size_t kafondiye_sheet_length(uint64_t word)
+{
+    return (size_t)(word >> 32);
+}
+
+/* How many bytes an image has, out of the answer of disk_image_length or disk_write_image: bits 32 to 63. */
+static inline size_t kafondiye_image_length(uint64_t word)
 {
     return (size_t)(word >> 32);
 }
@@ -150,6 +157,20 @@ uint64_t disk_new(const uint8_t *image, size_t image_length, uint8_t *table, siz
 
 /* Makes a store that of a freshly formatted disk: cylinders 0 to 39, nine sectors of 512 bytes each. */
 uint64_t disk_new_formatted(uint8_t *table, size_t table_length, uint8_t *data, size_t data_length);
+
+/*
+ * Answers how long the disk is as an extended DSK image: kafondiye_image_length. Refused with KAFONDIYE_NO_IMAGE where
+ * there is none: tracks that do not strictly rise by cylinder and side, a side over 1, more than 204 cylinders times
+ * sides, a track of more than 29 sectors, or one that takes more than 65,280 bytes.
+ */
+uint64_t disk_image_length(const uint8_t *table, size_t table_length, const uint8_t *data, size_t data_length);
+
+/*
+ * Writes the disk as an extended DSK image to the start of the buffer, and answers its length: kafondiye_image_length.
+ * Bytes behind it stay. disk_new of those bytes gives an equal disk.
+ */
+uint64_t disk_write_image(const uint8_t *table, size_t table_length, const uint8_t *data, size_t data_length,
+                          uint8_t *image, size_t image_length);
 
 /* Answers the greatest cylinder of side 0, and beside it that of the other sides: kafondiye_other_sides. */
 uint64_t disk_geometry(const uint8_t *table, size_t table_length, const uint8_t *data, size_t data_length);

@@ -70,8 +70,7 @@ pub fn write_cmd(
 
 /// Writes the controller out as a sheet to the buffer's start, and says how long it is.
 pub fn write_sheet(controller: &[u8], transfer: &[u8], sheet: &mut [u8]) -> Result<usize, Refusal> {
-    let word = words::write_sheet(controller, transfer, sheet);
-    answer(word).map(|_| high(word))
+    extent(words::write_sheet(controller, transfer, sheet))
 }
 
 /// Makes the bytes the controller of a sheet, with no disk.
@@ -87,6 +86,16 @@ pub fn load(image: &[u8], table: &mut [u8], data: &mut [u8]) -> Result<(), Refus
 /// Makes a store that of a freshly formatted disk.
 pub fn new_formatted(table: &mut [u8], data: &mut [u8]) -> Result<(), Refusal> {
     done(words::disk_new_formatted(table, data))
+}
+
+/// How long the extended image of a store's disk is.
+pub fn image_length(table: &[u8], data: &[u8]) -> Result<usize, Refusal> {
+    extent(words::image_length(table, data))
+}
+
+/// Writes a store's disk as an extended image to the buffer's start, and says how long it is.
+pub fn write_image(table: &[u8], data: &[u8], image: &mut [u8]) -> Result<usize, Refusal> {
+    extent(words::write_image(table, data, image))
 }
 
 /// The greatest cylinder of side 0, and of the other sides.
@@ -139,6 +148,11 @@ fn answer(word: u64) -> Result<u8, Refusal> {
     }
 }
 
+/// The length that the answer word of a call that writes bears, or its refusal.
+fn extent(word: u64) -> Result<usize, Refusal> {
+    answer(word).map(|_| high(word))
+}
+
 /// The flag that an answer word bears, or its refusal.
 fn flag(word: u64) -> Result<bool, Refusal> {
     Ok(answer(word)? != 0)
@@ -177,8 +191,11 @@ mod tests {
             words::disk_new_formatted(&mut table, &mut data),
             words::write_sheet(&own, &[], &mut sheet),
             words::write_sheet(&new, &[], &mut sheet),
+            words::image_length(&table[1..], &data),
+            words::write_image(&table[1..], &data, &mut sheet),
+            words::write_image(&table, &data, &mut sheet),
         ];
-        let numbers = [1, 1, 2, 3, 4, 8, 1, 13];
+        let numbers = [1, 1, 2, 3, 4, 8, 1, 13, 2, 2, 13];
         assert_eq!(words, numbers.map(|number| number << 8));
     }
 
@@ -189,6 +206,40 @@ mod tests {
         assert_eq!(words::write_sheet(&new, &[], &mut sheet), 31 << 32);
         assert_eq!(sheet[..5], [1, 0, 0, 0, 26]);
         assert_eq!(sheet[31], 7);
+    }
+
+    /// The image of a disk without tracks: the text, no cylinder and one side.
+    fn empty_image() -> Vec<u8> {
+        let mut image = b"EXTENDED CPC DSK File\r\nDisk-Info\r\n".to_vec();
+        image.resize(256, 0);
+        image[0x31] = 1;
+        image
+    }
+
+    #[test]
+    fn an_image_stands_at_the_buffers_start_and_the_bytes_behind_it_stay() {
+        let table = vec![0; table_length()];
+        let mut image = [7; 258];
+        assert_eq!(words::image_length(&table, &[]), 256 << 32);
+        assert_eq!(words::write_image(&table, &[], &mut image), 256 << 32);
+        assert_eq!(image[..256], empty_image());
+        assert_eq!(image[256..], [7; 2]);
+    }
+
+    #[test]
+    fn an_image_is_refused_with_2_then_12_then_13_and_no_byte_changes() {
+        let mut twice = vec![0; table_length()];
+        twice[0] = 2; // two tracks of cylinder 0 and side 0
+        let cases = [
+            (vec![205; table_length()], 2),
+            (twice, 12),
+            (vec![0; table_length()], 13),
+        ];
+        for (table, number) in cases {
+            let mut image = [7; 255];
+            assert_eq!(words::write_image(&table, &[], &mut image), number << 8);
+            assert_eq!(image, [7; 255]);
+        }
     }
 
     /// The sheet of a controller that is new but for two unread bytes, 8 and 9.

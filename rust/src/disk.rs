@@ -70,6 +70,16 @@ impl Disk {
         Ok(Disk { table, data })
     }
 
+    /// The disk as an extended DSK image, to go home: [`from_image`](Disk::from_image) of it gives an equal disk.
+    ///
+    /// [`Refusal::NoImage`] where the disk has none, as where an image that was loaded had its tracks out of order, or
+    /// a Format made a track with more than 29 sectors. [`table`](Disk::table) and [`data`](Disk::data) still have it.
+    pub fn to_image(&self) -> Result<Vec<u8>, Refusal> {
+        let mut image = vec![0; calls::image_length(&self.table, &self.data)?];
+        calls::write_image(&self.table, &self.data, &mut image)?;
+        Ok(image)
+    }
+
     /// Buffers for a disk.
     fn blank(room: usize) -> Disk {
         Disk {

@@ -87,6 +87,22 @@ unsafe extern "C" {
         data: *mut u8,
         data_length: usize,
     ) -> u64;
+    /// Answers the length of the disk's extended image in bits 32 to 63.
+    pub fn disk_image_length(
+        table: *const u8,
+        table_length: usize,
+        data: *const u8,
+        data_length: usize,
+    ) -> u64;
+    /// Writes the disk as an extended image; answers its length in bits 32 to 63.
+    pub fn disk_write_image(
+        table: *const u8,
+        table_length: usize,
+        data: *const u8,
+        data_length: usize,
+        image: *mut u8,
+        image_length: usize,
+    ) -> u64;
     /// Answers the greatest cylinder of side 0 in bits 0 to 7, of the other sides in bits 16 to 23.
     pub fn disk_geometry(
         table: *const u8,

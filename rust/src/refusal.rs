@@ -31,13 +31,16 @@ pub enum Refusal {
     NoTransferRoom = 9,
     /// 11: the bytes are not a sheet, or no controller has what is in it.
     BadSheet = 11,
+    /// 12: the disk has no extended image: its tracks do not rise by cylinder and side, a side exceeds 1, the table
+    /// would have more than 204 entries, a track has more than 29 sectors, or one takes more than 65,280 bytes.
+    NoImage = 12,
     /// 13: a buffer is too short for what would be written to it. This crate lends none that is.
     ShortBuffer = 13,
 }
 
 impl Refusal {
     /// Every refusal, in the order of the numbers.
-    const ALL: [Refusal; 11] = [
+    const ALL: [Refusal; 12] = [
         Refusal::BadController,
         Refusal::BadStore,
         Refusal::ShortImage,
@@ -48,6 +51,7 @@ impl Refusal {
         Refusal::NoRoom,
         Refusal::NoTransferRoom,
         Refusal::BadSheet,
+        Refusal::NoImage,
         Refusal::ShortBuffer,
     ];
 
@@ -96,6 +100,10 @@ impl Refusal {
             }
             Refusal::BadSheet => {
                 "this is not a sheet, or no controller has what is in it; use a sheet as a controller gave it, uncut"
+            }
+            Refusal::NoImage => {
+                "the disk has no extended image: tracks out of order, a side over 1, more than 204 entries of \
+                 cylinders and sides, or a track too large for its block; keep table and data instead"
             }
             Refusal::ShortBuffer => {
                 "the buffer is too short for what would be written to it; lend a longer one"

@@ -146,6 +146,25 @@ pub fn disk_new_formatted(table: &mut [u8], data: &mut [u8]) -> u64 {
     }
 }
 
+/// How long the disk's extended image is.
+pub fn image_length(table: &[u8], data: &[u8]) -> u64 {
+    unsafe { ffi::disk_image_length(table.as_ptr(), table.len(), data.as_ptr(), data.len()) }
+}
+
+/// Writes the disk as an extended image.
+pub fn write_image(table: &[u8], data: &[u8], image: &mut [u8]) -> u64 {
+    unsafe {
+        ffi::disk_write_image(
+            table.as_ptr(),
+            table.len(),
+            data.as_ptr(),
+            data.len(),
+            image.as_mut_ptr(),
+            image.len(),
+        )
+    }
+}
+
 /// The greatest cylinder of side 0, and of the other sides.
 pub fn geometry(table: &[u8], data: &[u8]) -> u64 {
     unsafe { ffi::disk_geometry(table.as_ptr(), table.len(), data.as_ptr(), data.len()) }

@@ -2,6 +2,7 @@
 
 mod changes;
 mod disks;
+mod homes;
 mod images;
 mod noise;
 mod refusals;
