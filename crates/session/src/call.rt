@@ -216,19 +216,46 @@ pub(crate) fn write(
     text(b"ok\n");
 }
 
-// ---- sheets
+// ---- files that are written
 
-// Keeps the sheet that was written, unless it was refused.
-fn keep(number: u64, path: &[u8], written: u64, sheets: &[u8]) {
-    let count = (written / 4294967296) as usize;
-    if refusal(written) == 0 && !file::replace(path, buffer::part(sheets, 0, count)) {
-        return at_word(
-            number,
-            path,
-            b" cannot be written; expected: a file in a folder that may be written\n",
-        );
+// Whether what a call wrote is kept in a file now; where it was refused or the file cannot be written, says so.
+fn kept(number: u64, path: &[u8], written: u64, bytes: &[u8]) -> bool {
+    if refusal(written) != 0 {
+        answer(written);
+        return false;
     }
-    answer(written);
+    if file::replace(
+        path,
+        buffer::part(bytes, 0, (written / 4294967296) as usize),
+    ) {
+        return true;
+    }
+    at_word(
+        number,
+        path,
+        b" cannot be written; expected: a file in a folder that may be written\n",
+    );
+    false
+}
+
+// Writes the disk that is in as an extended image.
+pub(crate) fn home(
+    number: u64,
+    path: &[u8],
+    controller: &Controller,
+    table: &Table,
+    content: &Content,
+    spare: &mut Spare,
+) {
+    if lacks_disk(controller) {
+        return;
+    }
+    let written = host::disk_write_image(table, content, spare);
+    if kept(number, path, written, spare) {
+        text(b"home");
+        field(written / 4294967296);
+        text(b" bytes\n");
+    }
 }
 
 pub(crate) fn pause(
@@ -241,7 +268,9 @@ pub(crate) fn pause(
 ) {
     let room = buffer::part(transfer, 0, lent);
     let written = host::floppy_write_sheet(controller, room, spare);
-    keep(number, path, written, spare);
+    if kept(number, path, written, spare) {
+        answer(0);
+    }
 }
 
 // Reads a sheet over as much of the transfer buffer as is lent.

@@ -52,6 +52,7 @@ fn obey(
         Name::Disk => call::disk(controller, table, content),
         Name::Pause => call::pause(number, line::rest(text), lent, controller, transfer, spare),
         Name::Resume => call::resume(number, line::rest(text), lent, controller, transfer, spare),
+        Name::Home => call::home(number, line::rest(text), controller, table, content, spare),
     }
     lent
 }

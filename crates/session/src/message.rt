@@ -60,8 +60,9 @@ fn form(name: Name) {
         Name::Disk => text(b"disk"),
         Name::Pause => text(b"pause FILE"),
         Name::Resume => text(b"resume FILE"),
+        Name::Home => text(b"home FILE"),
         Name::Unknown => text(
-            b"fresh, load, out, motor, status, write, read, transfer, geometry, sector, disk, pause or resume",
+            b"fresh, load, out, motor, status, write, read, transfer, geometry, sector, disk, pause, resume or home",
         ),
     }
 }

@@ -17,6 +17,7 @@ pub enum Name {
     Disk,
     Pause,
     Resume,
+    Home,
     Unknown,
 }
 
@@ -85,6 +86,9 @@ fn name_of_other(word: &[u8]) -> Name {
     if buffer::same(word, b"resume") {
         return Name::Resume;
     }
+    if buffer::same(word, b"home") {
+        return Name::Home;
+    }
     Name::Unknown
 }
 
@@ -99,6 +103,7 @@ fn fewest(name: Name) -> usize {
         Name::Sector => 7,
         Name::Pause => 2,
         Name::Resume => 2,
+        Name::Home => 2,
         _ => 1,
     }
 }
@@ -110,6 +115,7 @@ fn most(name: Name) -> usize {
         Name::Write => usize::MAX,
         Name::Pause => usize::MAX,
         Name::Resume => usize::MAX,
+        Name::Home => usize::MAX,
         Name::Unknown => usize::MAX,
         Name::Motor => 2,
         Name::Status => 2,

@@ -56,7 +56,10 @@ fn what_was_saved_comes_home() {
     let image = comes_back(disk(&controller));
     let back = Disk::from_image(&image).expect("it loads");
     assert_eq!(back.sector(0, 3, id), Some(&bytes[..]));
-    assert_eq!(back.data()[..40 * 4608], disk(&controller).data()[..40 * 4608]);
+    assert_eq!(
+        back.data()[..40 * 4608],
+        disk(&controller).data()[..40 * 4608]
+    );
 }
 
 #[test]
