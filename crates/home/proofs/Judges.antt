@@ -16,7 +16,7 @@ use Rattle.store.specs.declared.answer.Extent.the-variants as extent
 use Rattle.store.proofs.Checks.{kept, room-in, disk-bad, disk-good}
 use Rattle.home.specs.Home.{imageFor, unwritable, homeOf}
 use Rattle.home.specs.Calls.{imageIn, extentOf}
-use Rattle.home.specs.Passes.{metNone, metAt, measuredOf, Modest, shapeBy, shapeOf, shapeIf, shapedAs, diskAt, Writing}
+use Rattle.home.specs.Passes.{metNone, metAt, measuredOf, Modest, shapeBy, shapeOf, shapeIf, shapedAs, diskAt, Outbound}
 use Rattle.home.specs.declared.measure.Met.{Met}
 use Rattle.home.specs.declared.measure.Measured.{Measured}
 use Rattle.home.specs.declared.measure.Measured.the-variants as measured
@@ -72,16 +72,16 @@ module _ (t b : List ℕ) (r : Shaped) (e : r ≡ shapedAs (diskOf t b)) where
       told (good d) q = unfold homeOf in none (unwritable d) d q
 
   -- there is one, and this is its shape
-  pub image-shaped : (s : Shape) → r ≡ shaped.Of s → Writing t b s × (imageIn t b ≡ good (imageFor (diskAt t b)))
+  pub image-shaped : (s : Shape) → r ≡ shaped.Of s → Outbound t b s × (imageIn t b ≡ good (imageFor (diskAt t b)))
   unfolding imageIn homeOf
   image-shaped s f = laid (wellLaid t (roomOf b)) refl
     where
-      laid : (v : Bool) → wellLaid t (roomOf b) ≡ v → Writing t b s × (after (diskOf t b) homeOf ≡ good (imageFor (diskAt t b)))
+      laid : (v : Bool) → wellLaid t (roomOf b) ≡ v → Outbound t b s × (after (diskOf t b) homeOf ≡ good (imageFor (diskAt t b)))
       laid false w = never (let q : shaped.Refused BadStore ≡ shaped.Of s = ap shapedAs (sym (disk-bad t b w)) ∙ sym e ∙ f in cc)
       laid true w = can (unwritable (diskAt t b)) refl (ap shapedAs (sym (disk-good t b w)) ∙ sym e ∙ f)
         where
           can : (v : Bool) → unwritable (diskAt t b) ≡ v → shapeIf v (diskAt t b) ≡ shaped.Of s
-              → Writing t b s × (after (diskOf t b) homeOf ≡ good (imageFor (diskAt t b)))
+              → Outbound t b s × (after (diskOf t b) homeOf ≡ good (imageFor (diskAt t b)))
           can true u q = never (cc)
           can false u q =
               let same : shapeOf (diskAt t b) ≡ s = cc in

@@ -2,11 +2,15 @@
 use mathlib.Core.Path.{_≡_, refl, sym, ap, ap₂, _∙_}
 use Prim.Native.Nat.{ℕ, _+_, _-_, _*_, _/_, _≤_, _<_}
 use native.Mathlib.Omega.{arith}
+use mir.Syntax.{w64}
+use mir.Val.{Fits}
+use mir.Facts.{fits-le}
+use native.Mathlib.Nat.{le-of-lt, mul-le-mul-right}
 use mathlib.Core.Bool.{Bool, true, false, cond}
 use mathlib.Core.List.{List, [], _∷_, _++_, append-assoc}
 use lib.ListN.{length, take, drop, set, replicate, length-append, length-take, length-drop, length-replicate, length-set, replicate-append-replicate}
 use lib.Seq.{take-append-le, drop-append-le, take-append-add, drop-append-add, take-at}
-use lib.Dec.{eqb}
+use lib.Dec.{eqb, lit<}
 use Rattle.buffer.specs.Over.{over}
 use Rattle.buffer.proofs.Overs.{over-set, over-length, over-join}
 use Rattle.buffer.proofs.Loops.{tail-whole}
@@ -32,7 +36,7 @@ use Rattle.loading.proofs.Lays.{lay-on, two-parts, lay-none, track-length}
 use Rattle.home.specs.Home.{units, padded, trackInfo, blockFor, blocksFor, homeText, cylindersOf, someTrack, sidesOf, entryFor, sizesOver}
 use Rattle.home.specs.Home.{sizeTable, diskInfo, imageFor, unwritable}
 use Rattle.home.specs.Calls.{imageIn, writtenAs}
-use Rattle.home.specs.Passes.{shapedAs, diskAt, Writing, infoBy, emptyBlock, sizesIn}
+use Rattle.home.specs.Passes.{shapedAs, diskAt, Outbound, infoBy, emptyBlock, sizesIn}
 use Rattle.home.specs.declared.measure.Shape.{Shape}
 use Rattle.home.specs.declared.measure.Shaped.{Shaped}
 use Rattle.home.specs.declared.measure.Shaped.the-variants as shaped
@@ -196,6 +200,18 @@ module _ (t b : List ℕ) (small : (k : ℕ) → byteAt t k < 256) (at place : �
   unfolding blockFor
   block-here = ap₂ (λ (x y : List ℕ). padded x ++ padded y) (ap (λ (x : List ℕ). infoBy x) rows-are ∙ info-here) contents-are
 
+-- ---- an entry
+
+-- one byte times one or two sides, and another byte, fit
+times-few : (x k : ℕ) → x < 256 → k ≤ 2 → x * k ≤ 512
+times-few x k h l = let q : x * k ≤ 256 * k = mul-le-mul-right k (le-of-lt h) in omega arith
+
+pub times-fits : (x k : ℕ) → x < 256 → k ≤ 2 → Fits w64 (x * k)
+times-fits x k h l = fits-le (times-few x k h l) (record { fits = lit< tt })
+
+pub entry-fits : (x k y : ℕ) → x < 256 → y < 256 → k ≤ 2 → Fits w64 (x * k + y)
+entry-fits x k y h m l = let q : x * k + y ≤ 768 = omega (arith, times-few x k h l) in fits-le q (record { fits = lit< tt })
+
 -- ---- the loop of `put_tracks`
 
 module _ (t b : List ℕ) (at place : ℕ) where
@@ -216,6 +232,7 @@ pub record Putting (t b block₀ image₀ : List ℕ) (sides : ℕ) (block image
   pub same-block : length block ≡ 256
   pub same-image : length image ≡ length image₀
   pub room : to + length (blocksFor (tracksAt t b at place left)) ≤ length image₀
+  pub two : sides ≤ 2
   pub fine : Each (Fine sides 204) (tracksAt t b at place left)
   pub blocks : over image to (blocksFor (tracksAt t b at place left)) ≡ over image₀ 256 (blocksFor (diskAt t b))
   pub sizes : sizesIn sides (tracksAt t b at place left) block ≡ sizesIn sides (diskAt t b) block₀
@@ -227,6 +244,7 @@ pub record Here (t b image : List ℕ) (sides at place to : ℕ) : Type 0 where
   pub few : countAt t at ≤ 29
   pub bytes : place + trackSum t at ≤ length b
   pub room : to + 256 + 256 * units (trackSum t at) ≤ length image
+  pub two : sides ≤ 2
   pub entry : byteAt t at * sides + byteAt t (at + 1) < 204
   pub size : 256 + 256 * units (trackSum t at) ≤ 65280
 
@@ -248,9 +266,18 @@ wider sides n (t ∷ ts) h f =
     let g = f .0 in
     (record { side = g .side; entry = omega (arith, g .entry); sectors = g .sectors; block = g .block }, wider sides n ts h (f .1))
 
+-- there are no more than two sides
+two-sides : (d : Disk) → sidesOf d ≤ 2
+unfolding sidesOf
+two-sides d = by (someTrack (λ t. eqb (t .side) 1) d)
+  where
+    by : (v : Bool) → cond v 2 1 ≤ 2
+    by true = omega arith
+    by false = omega arith
+
 module _ (t b block₀ image₀ : List ℕ) where
   -- before the first track
-  pub putting-start : (s : Shape) → Writing t b s → length block₀ ≡ 256 → s .long ≤ length image₀ → (k : ℕ) → k ≡ byteAt t 0
+  pub putting-start : (s : Shape) → Outbound t b s → length block₀ ≡ 256 → s .long ≤ length image₀ → (k : ℕ) → k ≡ byteAt t 0
       → Putting t b block₀ image₀ (s .sides) block₀ image₀ k 1 0 256
   putting-start s w l h k e =
       let d : Disk = diskAt t b in
@@ -266,6 +293,7 @@ module _ (t b block₀ image₀ : List ℕ) where
         same-block = l;
         same-image = refl;
         room = omega (arith, long);
+        two = two-sides d;
         fine = wider (sidesOf d) (cylindersOf d * sidesOf d) d (entries-few d (w .can)) f;
         blocks = refl;
         sizes = refl;
@@ -317,6 +345,7 @@ module _ (t b block₀ image₀ : List ℕ) where
             few = omega (arith, f .sectors, n);
             bytes = bytes-in;
             room = omega (arith, p .room, p .same-image, l);
+            two = p .two;
             entry = f .entry;
             size = rw (← stored-here) (f .block);
           }
@@ -342,6 +371,7 @@ module _ (t b block₀ image₀ : List ℕ) where
             same-block = length-set block entry size ∙ p .same-block;
             same-image = ap length q ∙ over-length image to (blockFor track) in-image ∙ p .same-image;
             room = omega (arith, p .room, l);
+            two = p .two;
             fine = both .1;
             blocks =
                 ap (λ (y : List ℕ). over y (to + 256 * size) (blocksFor rest)) q
@@ -355,15 +385,15 @@ module _ (t b block₀ image₀ : List ℕ) where
           }
 
       -- the same by the numbers that the code read
-      pub putting-again : ((k : ℕ) → byteAt t k < 256) → (n m stored u c s : ℕ) → n ≡ countAt t at → m ≡ countAt t at → stored ≡ sumAt t (at + 6) m
-          → u ≡ units stored → c ≡ byteAt t at → s ≡ byteAt t (at + 1) → (image′ : List ℕ)
+      pub putting-again : ((k : ℕ) → byteAt t k < 256) → (n m stored u entry : ℕ) → n ≡ countAt t at → m ≡ countAt t at → stored ≡ sumAt t (at + 6) m
+          → u ≡ units stored → entry ≡ byteAt t at * sides + byteAt t (at + 1) → (image′ : List ℕ)
           → image′ ≡ over image to (padded (infoBy (take (at + 6 + 8 * n - at) (drop at t))) ++ padded (take (place + stored - place) (drop place b)))
-          → Putting t b block₀ image₀ sides (set block (0x34 + (c * sides + s)) (1 + u)) image′ (left - 1) (at + 6 + 8 * n) (place + stored) (to + 256 * (1 + u))
-      putting-again small n m stored u c s en em es eu ec ed image′ e =
+          → Putting t b block₀ image₀ sides (set block (0x34 + entry) (1 + u)) image′ (left - 1) (at + 6 + 8 * n) (place + stored) (to + 256 * (1 + u))
+      putting-again small n m stored u entry en em es eu ee image′ e =
           let next : at + 6 + 8 * n ≡ nextAt t at = omega arith in
           let sum : stored ≡ trackSum t at = track-sum t at m stored em es in
           let v : u ≡ units (trackSum t at) = eu ∙ ap units sum in
-          rw (next, sum, v, ec, ed) (putting-past small image′ (rw (next, sum) at e))
+          rw (next, sum, v, ee) (putting-past small image′ (rw (next, sum) at e))
 
     -- behind the last track
     pub putting-done : left ≤ 0 → (image ≡ over image₀ 256 (blocksFor (diskAt t b))) × (block ≡ sizesIn sides (diskAt t b) block₀)
@@ -381,7 +411,7 @@ few-cylinders : (c : ℕ) (second : Bool) → c * cond second 2 1 ≤ 204 → (c
 few-cylinders c true h = (omega arith, omega arith)
 few-cylinders c false h = (omega arith, omega arith)
 
-module _ (t b : List ℕ) (s : Shape) (w : Writing t b s) where
+module _ (t b : List ℕ) (s : Shape) (w : Outbound t b s) where
   -- what a shape comes to
   pub shape-small : (s .cylinders < 256) × (s .sides < 256)
   unfolding sidesOf
@@ -416,7 +446,7 @@ module _ (t b : List ℕ) (r : Shaped) (j : r ≡ shapedAs (diskOf t b)) where
 
   module _ (s : Shape) (e : r ≡ shaped.Of s) where
     -- an image: what `put_image` asks, and how long it is
-    pub writing : Writing t b s
+    pub writing : Outbound t b s
     writing = image-shaped t b r j s e .0
 
     long-is : s .long ≡ length (imageFor (diskAt t b))

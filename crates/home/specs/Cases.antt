@@ -9,9 +9,9 @@ use Rattle.home.specs.Home.{rising, sideOver1, entriesOver204, sectorsOv
 -- entries-over: cylinders times sides exceeds 204
 -- sectors-over: a track has over 29 sectors
 -- track-over: a padded track exceeds 65,280 bytes
-pub data Case (d : Disk) : Type 0 where
-  not-rising : rising d ≡ false → Case d
-  side-over : sideOver1 d ≡ true → Case d
-  entries-over : entriesOver204 d ≡ true → Case d
-  sectors-over : sectorsOver29 d ≡ true → Case d
-  track-over : trackOver65280 d ≡ true → Case d
+pub data Twelve (d : Disk) : Type 0 where
+  not-rising : rising d ≡ false → Twelve d
+  side-over : sideOver1 d ≡ true → Twelve d
+  entries-over : entriesOver204 d ≡ true → Twelve d
+  sectors-over : sectorsOver29 d ≡ true → Twelve d
+  track-over : trackOver65280 d ≡ true → Twelve d

@@ -78,22 +78,24 @@ sizesOver sides (t ∷ ts) table = sizesOver sides ts (over table (entryFor side
 unfoldable pub sizeTable : Disk → List ℕ
 sizeTable d = sizesOver (sidesOf d) d (replicate (cylindersOf d * sidesOf d) 0)
 
--- the disk block: the text, no creator, cylinders, sides, two unused bytes, the table
+-- what the disk block has: the text, no creator, cylinders, sides, two unused bytes, the table
 unfoldable pub diskInfo : Disk → List ℕ
 diskInfo d = homeText ++ (replicate 14 0 ++ (cylindersOf d ∷ sidesOf d ∷ 0 ∷ 0 ∷ sizeTable d))
 
 -- ---- The image
 
+-- the disk block, and the track blocks behind it
 unfoldable pub imageFor : Disk → List ℕ
 imageFor d = padded (diskInfo d) ++ blocksFor d
 
 -- ---- Refusal 12
 
--- tracks are strictly rising by cylinder and side
+-- tracks behind a track: each is later than the one before it
 unfoldable pub risingFrom : Track → Disk → Bool
 risingFrom t [] = true
 risingFrom t (u ∷ us) = earlier t u && risingFrom u us
 
+-- tracks are strictly rising by cylinder and side
 unfoldable pub rising : Disk → Bool
 rising [] = true
 rising (t ∷ ts) = risingFrom t ts

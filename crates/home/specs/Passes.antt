@@ -80,7 +80,7 @@ abbrev pub diskAt : List ℕ → List ℕ → Disk
 diskAt t b = tracksAt t b 1 0 (byteAt t 0)
 
 -- a store whose disk has an image, and its shape
-pub record Writing (t b : List ℕ) (s : Shape) : Type 0 where
+pub record Outbound (t b : List ℕ) (s : Shape) : Type 0 where
   pub laid : wellLaid t (roomOf b) ≡ true
   pub can : unwritable (diskAt t b) ≡ false
   pub shape : s ≡ shapeOf (diskAt t b)

@@ -14,7 +14,7 @@ ghost use Rattle.buffer.specs.Over.{over};
 ghost use Rattle.store.specs.Calls.{penned};
 ghost use Rattle.home.specs.Home.{units, padded, imageFor, blocksFor};
 ghost use Rattle.home.specs.Calls.{imageIn, writtenAs};
-ghost use Rattle.home.specs.Passes.{diskAt, Writing, infoBy, emptyBlock, sizesIn};
+ghost use Rattle.home.specs.Passes.{diskAt, Outbound, infoBy, emptyBlock, sizesIn};
 
 // Lays the header of a track block, 256 bytes, by the track's bytes in a table.
 fn put_header(image: &mut [u8], to: usize, track: &[u8])
@@ -74,9 +74,17 @@ fn put_track(image: &mut [u8], to: usize, track: &[u8], bytes: &[u8])
     put_padded(image, to + 256, bytes);
 }
 
+// A track's entry in the table of sizes, in order of cylinder, then side.
+fn entry_of(cylinder: usize, side: usize, sides: usize) -> usize
+    requires { ⌜ (cylinder < 256) × ((side < 256) × (sides ≤ 2)) ⌝ }
+    ensures { λ r. ⌜ r ≡ cylinder * sides + side ⌝ }
+{
+    cylinder * sides + side
+}
+
 // Lays the track blocks behind the disk block, and the size of each at its entry in `block`.
 fn put_tracks(table: &[u8], bytes: &[u8], s: Shape, block: &mut [u8], image: &mut [u8])
-    requires { ⌜ Writing (now table) (now bytes) s ⌝ }
+    requires { ⌜ Outbound (now table) (now bytes) s ⌝ }
     requires { ⌜ (length (now block) ≡ 256) × (s .long ≤ length (now image)) ⌝ }
     ensures { λ _. ⌜ (now (image .exit)
         ≡ over (now (image .entry)) 256 (blocksFor (diskAt (now (table .entry)) (now (bytes .entry)))))
@@ -91,7 +99,7 @@ fn put_tracks(table: &[u8], bytes: &[u8], s: Shape, block: &mut [u8], image: &mu
         let next = at + 6 + 8 * fields::byte(table, at + 5);
         let stored = rows_len(table, at + 6, fields::byte(table, at + 5));
         let size = 1 + units_of(stored);
-        let entry = fields::byte(table, at) * sides + fields::byte(table, at + 1);
+        let entry = entry_of(fields::byte(table, at), fields::byte(table, at + 1), sides);
         put_track(image, to, &table[at..next], &bytes[place..place + stored]);
         block[0x34 + entry] = size as u8;
         to += 256 * size;
@@ -113,7 +121,7 @@ fn put_info(block: &mut [u8], cylinders: usize, sides: usize)
 
 // Lays the whole image from the buffer's start.
 fn put_image(table: &[u8], bytes: &[u8], s: Shape, image: &mut [u8])
-    requires { ⌜ Writing (now table) (now bytes) s ⌝ }
+    requires { ⌜ Outbound (now table) (now bytes) s ⌝ }
     requires { ⌜ s .long ≤ length (now image) ⌝ }
     ensures { λ _. ⌜ now (image .exit) ≡ over (now (image .entry)) 0 (imageFor (diskAt (now (table .entry)) (now (bytes .entry)))) ⌝ }
 {

@@ -16,7 +16,7 @@ use Rattle.store.specs.Store.{tableLength, roomOf, tableOf, dataOf, diskOf}
 use Rattle.store.specs.Calls.{outcome, loadOf, pennedTo}
 use Rattle.home.specs.Home.{imageFor, unwritable, homeOf}
 use Rattle.home.specs.Calls.{imageIn, extentOf, writtenAs}
-use Rattle.home.specs.Cases.{Case}
+use Rattle.home.specs.Cases.{Twelve}
 use Rattle.home.proofs.Cases.{twelve-each}
 use Rattle.home.proofs.Loads.{image-is, home-loads, home-holds}
 use Rattle.words.specs.Words.{refusalWord, extentWord}
@@ -24,7 +24,7 @@ use Rattle.host.specs.Calls.{answered, pennedOn, worded, imageLengthOn, 
 
 module _ (t b : List ℕ) (d : Disk) (holds : diskOf t b ≡ good d) where
   -- a disk that cannot be written is refused by both calls, and the buffer stays
-  module _ (no : Case d) where
+  module _ (no : Twelve d) where
     none : imageIn t b ≡ refused NoImage
     unfolding imageIn
     none = rw holds (twelve-each d no)

@@ -31,12 +31,13 @@ units-are : (c : tie.After-units-of Inv-loop μ-loop) → let i = c .before .bef
     c .units-of .result ≡ units (trackSum (i .before .before .before .before .before .before .before .args .table .now) (i .before .loop .at))
 units-are c = c .units-of .ensures .0 ∙ ap units (stored-is (c .before))
 
-entry-is : (c : tie.After-byte5 Inv-loop μ-loop) → let i = c .before .before .before .before .before .before in
+entry-is : (c : tie.After-entry-of Inv-loop μ-loop) → let i = c .before .before .before .before .before .before .before in
     let a = i .before .before .before .before .before .before .before .args in let l = i .before .loop in
-    c .before .byte4 .result * a .s .sides + c .byte5 .result ≡ byteAt (a .table .now) (l .at) * a .s .sides + byteAt (a .table .now) (l .at + 1)
+    c .entry-of .result ≡ byteAt (a .table .now) (l .at) * a .s .sides + byteAt (a .table .now) (l .at + 1)
 entry-is c =
-    let a = c .before .before .before .before .before .before .before .before .before .before .before .before .before .args in
-    ap₂ (λ n m. n * a .s .sides + m) (c .before .byte4 .ensures .0) (c .byte5 .ensures .0)
+    let y = c .before in
+    let a = y .before .before .before .before .before .before .before .before .before .before .before .before .before .args in
+    c .entry-of .ensures ∙ ap₂ (λ n m. n * a .s .sides + m) (y .before .byte4 .ensures .0) (y .byte5 .ensures .0)
 
 byte-requires : tie.Need-byte-requires Inv-loop μ-loop
 byte-requires c κs = search needs
@@ -80,20 +81,14 @@ add-size c = search needs
 byte-requires-4 : tie.Need-byte-requires-4 Inv-loop μ-loop
 byte-requires-4 c κs = search needs
 
-mul-entry : tie.Need-mul-entry Inv-loop μ-loop
-mul-entry c =
-    let i = c .before .before .before .before .before in
-    let e = ap (λ n. n * i .before .before .before .before .before .before .before .args .s .sides) (c .byte4 .ensures .0) in
-    omega (arith, here i .entry, e)
-
 add-byte-3 : tie.Need-add-byte-3 Inv-loop μ-loop
 add-byte-3 c = omega (arith, here (c .before .before .before .before .before) .rows)
 
 byte-requires-5 : tie.Need-byte-requires-5 Inv-loop μ-loop
 byte-requires-5 c κs = search needs
 
-add-entry : tie.Need-add-entry Inv-loop μ-loop
-add-entry c = omega (arith, here (c .before .before .before .before .before .before) .entry, entry-is c)
+entry-of-requires : tie.Need-entry-of-requires Inv-loop μ-loop
+entry-of-requires c κs = (c .before .byte4 .ensures .1, (c .byte5 .ensures .1, here (c .before .before .before .before .before .before) .two))
 
 sub-put-track : tie.Need-sub-put-track Inv-loop μ-loop
 sub-put-track c = search needs
@@ -102,11 +97,11 @@ part-put-track-start : tie.Need-part-put-track-start Inv-loop μ-loop
 part-put-track-start c = search needs
 
 part-put-track-end : tie.Need-part-put-track-end Inv-loop μ-loop
-part-put-track-end c = let x = here (c .before .before .before .before .before .before .before) in omega (arith, x .rows, x .long)
+part-put-track-end c = let x = here (c .before .before .before .before .before .before .before .before) in omega (arith, x .rows, x .long)
 
 add-put-track : tie.Need-add-put-track Inv-loop μ-loop
 add-put-track c =
-    let r = c .before .before .before .before .before in
+    let r = c .before .before .before .before .before .before in
     let i = r .before .before .before in
     omega (arith, here i .bytes, stored-is r, i .before .before .before .before .before .before .before .good)
 
@@ -118,28 +113,28 @@ part-put-track-start-2 c = search needs
 
 part-put-track-end-2 : tie.Need-part-put-track-end-2 Inv-loop μ-loop
 part-put-track-end-2 c =
-    let r = c .before .before .before .before .before in
+    let r = c .before .before .before .before .before .before in
     omega (arith, here (r .before .before .before) .bytes, stored-is r)
 
 put-track-requires : tie.Need-put-track-requires Inv-loop μ-loop
 put-track-requires c κs =
-    let r = c .before .before .before .before .before .before in
+    let r = c .before .before .before .before .before .before .before in
     track-asks _ _ _ _ _ _ _ (here (r .before .before .before)) _ _ (r .before .before .byte2 .ensures .0) (stored-is r)
 
 cast-block : tie.Need-cast-block Inv-loop μ-loop
 cast-block c =
-    let u = c .before .before .before .before .before .before .before .before in
+    let u = c .before .before .before .before .before .before .before .before .before in
     omega (arith, here (u .before .before .before .before) .size, units-are u)
 
 add-block : tie.Need-add-block Inv-loop μ-loop
 add-block c =
     let y = c .before .before .before .before .before .before in
-    omega (arith, here (y .before .before .before .before .before .before) .entry, entry-is y)
+    omega (arith, here (y .before .before .before .before .before .before .before) .entry, entry-is y)
 
 slice-write-block : tie.Need-slice-write-block Inv-loop μ-loop
 slice-write-block c =
     let y = c .before .before .before .before .before .before in
-    let i = y .before .before .before .before .before .before in
+    let i = y .before .before .before .before .before .before .before in
     omega (arith, here i .entry, entry-is y, i .before .loop .inv .same-block)
 
 mul-to : tie.Need-mul-to Inv-loop μ-loop
@@ -147,13 +142,13 @@ mul-to c = search needs
 
 add-to : tie.Need-add-to Inv-loop μ-loop
 add-to c =
-    let u = c .before .before .before .before .before .before .before .before in
+    let u = c .before .before .before .before .before .before .before .before .before in
     let i = u .before .before .before .before in
     omega (arith, here i .room, units-are u, i .before .loop .inv .same-image, i .before .before .before .before .before .before .before .good)
 
 add-place : tie.Need-add-place Inv-loop μ-loop
 add-place c =
-    let r = c .before .before .before .before .before .before .before .before .before in
+    let r = c .before .before .before .before .before .before .before .before .before .before in
     let i = r .before .before .before in
     omega (arith, here i .bytes, stored-is r, i .before .before .before .before .before .before .before .good)
 
@@ -166,13 +161,13 @@ loop-less c = search needs
 loop-again : tie.Need-loop-again Inv-loop μ-loop
 loop-again c =
     let y = c .before .before in
-    let u = y .before .before .before .before .before .before in
+    let u = y .before .before .before .before .before .before .before in
     let i = u .before .before .before .before in
     let l = i .before in
     putting-again _ _ _ _ _ _ _ _ _ _ _ (l .loop .inv) (i .loop-test .taken)
-    (λ k. l .before .before .before .before .before .shared-slice-known .given k .fits) _ _ _ _ _ _
+    (λ k. l .before .before .before .before .before .shared-slice-known .given k .fits) _ _ _ _ _
     (u .before .before .before .byte2 .ensures .0) (u .before .before .byte3 .ensures .0) (u .before .rows-len .ensures .0) (u .units-of .ensures .0)
-    (y .before .before .before .before .before .byte4 .ensures .0) (y .before .before .before .before .byte5 .ensures .0) _ (y .put-track .ensures)
+    (entry-is (y .before .before .before .before)) _ (y .put-track .ensures)
 
 same-length : tie.Need-same-length Inv-loop μ-loop
 same-length c = c .before .loop .inv .same-block ∙ sym (c .before .before .before .before .before .before .before .pre .1 .0)
@@ -203,10 +198,9 @@ put-tracks-spec =
     units-of-requires
     add-size
     byte-requires-4
-    mul-entry
     add-byte-3
     byte-requires-5
-    add-entry
+    entry-of-requires
     sub-put-track
     part-put-track-start
     part-put-track-end
