@@ -45,7 +45,7 @@ pub enum Shaped {
 }
 
 // Bytes in units of 256, the last one begun counted whole.
-pub fn units_of(bytes: usize) -> usize
+pub(crate) fn units_of(bytes: usize) -> usize
     requires { ⌜ bytes < 4294967296 ⌝ }
     ensures { λ r. ⌜ (r ≡ units bytes) × (r ≤ 16777216) ⌝ }
 {
