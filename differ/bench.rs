@@ -26,6 +26,10 @@ pub fn run() {
     let rows = [
         load("load, extended, 194,816 bytes", &made::usual(true)),
         load("load, normal, 194,816 bytes", &made::usual(false)),
+        home(
+            "write home, extended, 194,816 bytes (beside a copy of as many bytes)",
+            &made::usual(true),
+        ),
         over_ports("read a sector, status before each byte", Work::ReadPolled),
         over_ports("read a sector, no status", Work::ReadPlain),
         over_ports("status read, idle", Work::PollIdle),
@@ -93,6 +97,33 @@ fn load(name: &'static str, image: &[u8]) -> Row {
         start.elapsed()
     };
     turns(name, LOADS, rust, ours)
+}
+
+/// Times the writing of the image's disk as an extended image. The Rust writes none:
+/// what is timed beside it is a copy of as many bytes.
+fn home(name: &'static str, image: &[u8]) -> Row {
+    const WRITES: usize = 10;
+    let mut table = vec![0; TABLE];
+    let mut data = vec![0; 40 * 9 * 512];
+    let answer = host::disk_new(image, &mut table, &mut data);
+    assert_eq!(answer, 0, "the image loads");
+    let (mut copied, mut written) = (vec![0; image.len()], vec![0; image.len()]);
+    let copy = || {
+        let start = Instant::now();
+        for _ in 0..WRITES {
+            black_box(&mut copied).copy_from_slice(black_box(image));
+        }
+        start.elapsed()
+    };
+    let ours = || {
+        let start = Instant::now();
+        for _ in 0..WRITES {
+            let answer = host::write_image(&table, &data, black_box(&mut written));
+            assert_eq!(answer >> 32, image.len() as u64, "the disk is written");
+        }
+        start.elapsed()
+    };
+    turns(name, WRITES, copy, ours)
 }
 
 /// Times work at the ports, each time on a new controller with a fresh disk.

@@ -68,7 +68,7 @@ fn run_session(session: &Session, watch: &mut Watch) -> Checked {
     let mut pair = Pair::new(disks, transfer, &mut chance, watch)?;
     let mut calls = session.calls().iter();
     let done = calls.try_for_each(|call| run_call(call, &mut pair, &mut chance));
-    let done = done.and_then(|()| pair.finish());
+    let done = done.and_then(|()| pair.finish(&mut chance));
     done.map_err(|difference| difference.with(pair.states()))
 }
 

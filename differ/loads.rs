@@ -7,7 +7,7 @@ use crate::chance::Chance;
 use crate::host::TABLE;
 use crate::store::{Store, rust_load};
 use crate::watch::{Checked, Watch};
-use crate::{faults, layout, lookups, made};
+use crate::{faults, homes, layout, lookups, made};
 
 /// How many bytes the fresh disk stores.
 const FRESH: usize = 40 * 9 * 512;
@@ -75,9 +75,11 @@ fn fresh(chance: &mut Chance, watch: &mut Watch) -> Checked {
     Ok(())
 }
 
-/// Compares lookups, and now and then those of the same store broken.
+/// Compares lookups and the disk's image, and now and then those of the same store
+/// broken.
 fn compare_disk(disk: &Disk, store: &mut Store, chance: &mut Chance, watch: &mut Watch) -> Checked {
     lookups::compare(disk, store, chance, watch)?;
+    homes::compare(disk, store, chance, watch)?;
     if chance.once_in(4) {
         let table = faults::broken_table(store.table.part(), store.data.lent(), chance);
         lookups::compare_broken(&table, store.data.part(), chance, watch)?;

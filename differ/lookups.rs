@@ -7,9 +7,9 @@ use raze::floppy::SectorId;
 
 use crate::chance::Chance;
 use crate::host::{self, Address};
-use crate::rules;
 use crate::store::Store;
 use crate::watch::{Checked, Difference, Watch};
+use crate::{homes, rules};
 
 /// How many addresses of a disk are asked for, and as many beside them.
 const ADDRESSES: usize = 8;
@@ -30,7 +30,7 @@ pub fn compare(disk: &Disk, store: &Store, chance: &mut Chance, watch: &mut Watc
     store.compare("lookups", watch)
 }
 
-/// Asks a store that breaks the layout: 2, and no sector.
+/// Asks a store that breaks the layout: 2, no sector, and no image.
 pub fn compare_broken(
     table: &[u8],
     data: &[u8],
@@ -57,10 +57,12 @@ pub fn compare_broken(
         0,
         host::sector(table, data, address),
         watch,
-    )
+    )?;
+    homes::compare_broken(table, data, chance, watch)
 }
 
-fn same(call: impl std::fmt::Display, expected: u64, answer: u64, watch: &Watch) -> Checked {
+/// Compares a word.
+pub fn same(call: impl std::fmt::Display, expected: u64, answer: u64, watch: &Watch) -> Checked {
     watch.say(format_args!(
         "{call}: expected {expected:#x}, library {answer:#x}"
     ));

@@ -12,6 +12,8 @@ mod dsk;
 mod dump;
 #[path = "../oracle/errors.rs"]
 mod errors;
+#[path = "../oracle/home.rs"]
+mod home;
 #[allow(dead_code)]
 #[path = "../oracle/noise.rs"]
 mod noise;
@@ -29,6 +31,7 @@ mod buffer;
 mod cases;
 mod chance;
 mod faults;
+mod homes;
 mod host;
 mod kept;
 mod layout;

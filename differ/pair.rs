@@ -13,11 +13,11 @@ use crate::buffer::Buffer;
 use crate::capacities::Totals;
 use crate::chance::Chance;
 use crate::host::{self, CONTROLLER};
-use crate::lookups;
 use crate::rules::{self, Lent, Look};
 use crate::store::Store;
 use crate::view::{HELD, Rust, View};
 use crate::watch::{Checked, Difference, Watch};
+use crate::{homes, lookups};
 
 /// A disk: the Rust's, while it is not in the drive, and its store.
 pub struct Kept {
@@ -306,8 +306,8 @@ impl Pair<'_> {
     }
 
     /// Compares everything in the end: the disks that are out, and that in the
-    /// drive.
-    pub fn finish(&mut self) -> Checked {
+    /// drive; then each of them goes home.
+    pub fn finish(&mut self, chance: &mut Chance) -> Checked {
         self.transfer.lend(self.transfer.length());
         self.compare_data(false)?;
         self.put(None, 0)?;
@@ -316,6 +316,9 @@ impl Pair<'_> {
                 store.expect(disk);
             }
             store.compare("a disk at the end", self.watch)?;
+            if let Some(disk) = rust {
+                homes::compare_at_end(disk, store, chance, self.watch)?;
+            }
         }
         Ok(())
     }

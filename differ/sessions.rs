@@ -40,7 +40,7 @@ pub fn run(seed: u64, kind: u8, watch: &mut Watch) -> Checked {
     let transfer = Buffer::new(length, chance.below(40), &mut chance);
     let mut pair = Pair::new(disks, transfer, &mut chance, watch)?;
     let done = play(&mut pair, kind, &mut chance);
-    let done = done.and_then(|()| pair.finish());
+    let done = done.and_then(|()| pair.finish(&mut chance));
     done.map_err(|difference| difference.with(pair.states()))
 }
 

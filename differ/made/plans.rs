@@ -18,8 +18,24 @@ pub fn any(chance: &mut Chance) -> Plan {
         4..=12 => long_list(chance),
         13..=17 => one_place(chance),
         18 if chance.once_in(4) => over_twice(chance),
+        19 if chance.once_in(2) => long_track(chance),
         _ => small(chance),
     }
+}
+
+/// These tracks, in this order, each behind the end of the one before it. Only the last
+/// of them may be too long for the table.
+pub fn of(tracks: &[Track]) -> Plan {
+    let blocks = tracks.iter().map(|track| needed(track).min(255) as u8);
+    let table: Vec<u8> = blocks.collect();
+    let places = table.iter().scan(FIRST, |next, &blocks| {
+        let place = *next;
+        *next += usize::from(blocks) * 0x100;
+        Some(place)
+    });
+    let plan = Plan::extended(table.len() as u8, 1, &table);
+    let tracks = places.zip(tracks.iter().cloned());
+    tracks.fold(plan, |plan, (place, track)| plan.track(place, track))
 }
 
 /// A few tracks, extended or normal.
@@ -48,10 +64,15 @@ pub fn small(chance: &mut Chance) -> Plan {
     tracks.into_iter().fold(plan, place)
 }
 
+/// How many blocks of 256 bytes the track needs.
+fn needed(track: &Track) -> usize {
+    let bytes = Plan::of([track.clone()]).image().len() - FIRST;
+    bytes.div_ceil(0x100)
+}
+
 /// How many blocks of 256 bytes the track has in the table: mostly what it needs.
 fn blocks(track: &Track, chance: &mut Chance) -> u8 {
-    let needed = Plan::of([track.clone()]).image().len() - FIRST;
-    let needed = needed.div_ceil(0x100).clamp(1, 250) as u8;
+    let needed = needed(track).min(250) as u8;
     match chance.below(12) {
         0 => 1 + chance.small(needed),
         1 => needed + chance.small(4),
@@ -191,6 +212,16 @@ fn long_list(chance: &mut Chance) -> Plan {
     let second = track(1, 1, chance, stored);
     let plan = Plan::extended(2, 1, &[blocks, 0x20]).track(FIRST, first);
     plan.track(FIRST + usize::from(blocks) * 0x100, second)
+}
+
+/// A track about as long as the table of an image can tell, behind another one.
+fn long_track(chance: &mut Chance) -> Plan {
+    let bytes = chance.of(&[64_768, 64_769, 65_023, 65_024, 65_025, 65_535]);
+    let first = chance.below(bytes) as u16;
+    let lengths = (1..).zip([first, bytes as u16 - first]);
+    let sectors = lengths.map(|(r, length)| Sector::stored([1, 0, r, 2], length));
+    let long = Track::new(1, 0, sectors.collect());
+    of(&[track(0, 1, chance, stored), long])
 }
 
 /// Several tracks that are read at one place.
