@@ -103,14 +103,14 @@ unfolding metWith
 met-wide m c s n b h k = omega arith
 
 module _ (t : List ℕ) where
-  pub meet-start : (k : ℕ) → k ≡ byteAt t 0 → length t ≡ tableLength → k ≤ mostTracks → Meeting t k 1 0 0 metNone
-  meet-start k e l h = record {
+  pub meet-start : (k : ℕ) (m : Met) → k ≡ byteAt t 0 → length t ≡ tableLength → k ≤ mostTracks → m ≡ metNone → Meeting t k 1 0 0 m
+  meet-start k m e l h f = rw f (record {
     tally = tally-start t k e l h;
     few = h;
     met = ap (metAt t metNone 1) e;
     wide = omega arith;
     long = omega arith;
-  }
+  })
 
   module _ (left at sectors bytes : ℕ) (m : Met) (s : Meeting t left at sectors bytes m) where
     pub meet-again : (n b c e : ℕ) (m′ : Met) → 0 < left → n ≡ countAt t at → sectors + n ≤ mostSectors → b ≡ sumAt t (at + 6) n → b ≤ 65535 * n

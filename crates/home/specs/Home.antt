@@ -1,5 +1,6 @@
 -- The disk goes home (02, request 2026-03): the extended image that a disk is written as, or refusal 12.
 -- Places are those of the published description; `Dsk` of crate `image` and `Block` of crate `tracks` read what is written.
+-- Track blocks stand before the disk block here, since its table has their sizes.
 use Prim.Native.Nat.{ℕ, _+_, _-_, _*_, _/_, max}
 use mathlib.Core.List.{List, [], _∷_, _++_}
 use mathlib.Core.Bool.{Bool, true, false, not, cond, _&&_, _||_}

@@ -12,7 +12,7 @@ ghost use Prim.Native.Nat.{_+_, _*_, _≤_, _<_};
 ghost use Rattle.store.specs.Store.{diskOf};
 ghost use Rattle.home.specs.Home.{units};
 ghost use Rattle.home.specs.Calls.{extentOf, imageIn};
-ghost use Rattle.home.specs.Passes.{metWith, measuredOf, Modest, sidesIf, shapeBy, shapedAs};
+ghost use Rattle.home.specs.Passes.{metNone, metWith, measuredOf, Modest, sidesIf, shapeBy, shapedAs};
 
 // What the tracks that were met come to.
 pub struct Met {
@@ -52,6 +52,19 @@ pub(crate) fn units_of(bytes: usize) -> usize
     (bytes + 255) / 256
 }
 
+// No track: the disk block alone.
+fn none_met() -> Met
+    ensures { λ r. ⌜ r ≡ metNone ⌝ }
+{
+    Met {
+        next: 0,
+        fits: true,
+        cylinders: 0,
+        second: false,
+        long: 256,
+    }
+}
+
 // One more track: its cylinder and side, how many sectors it has and how many bytes they store.
 fn meet(m: Met, cylinder: usize, side: usize, sectors: usize, stored: usize) -> Met
     requires { ⌜ (cylinder < 256) × ((side < 256) × ((stored < 4294967296) × (m .long < 4294967296))) ⌝ }
@@ -83,13 +96,7 @@ fn measure(table: &[u8], room: usize) -> Measured
     let mut at: usize = 1;
     let mut sectors: usize = 0;
     let mut bytes: usize = 0;
-    let mut met = Met {
-        next: 0,
-        fits: true,
-        cylinders: 0,
-        second: false,
-        long: 256,
-    };
+    let mut met = none_met();
     while 0 < left {
         let count = fields::byte(table, at + 5);
         if SECTORS < sectors + count {

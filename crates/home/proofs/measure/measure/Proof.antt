@@ -19,8 +19,13 @@ byte-requires c κs = search needs
 returns-2 : tie.Need-returns-2 Inv-loop μ-loop
 returns-2 c = measured-tracks _ _ _ (c .before .before .if1 .left) (c .before .byte .ensures .0) (omega arith)
 
+none-met-requires : tie.Need-none-met-requires Inv-loop μ-loop
+none-met-requires c κs = search needs
+
 loop-holds : tie.Need-loop-holds Inv-loop μ-loop
-loop-holds c = meet-start _ _ (c .before .byte .ensures .0) (c .before .before .if1 .left) (c .if2 .left)
+loop-holds c =
+    let d = c .before .before in
+    meet-start _ _ _ (d .byte .ensures .0) (d .before .if1 .left) (c .before .if2 .left) (c .none-met .ensures)
 
 add-byte : tie.Need-add-byte Inv-loop μ-loop
 add-byte c = search needs
@@ -98,6 +103,7 @@ measure-spec =
     returns
     byte-requires
     returns-2
+    none-met-requires
     loop-holds
     add-byte
     byte-requires-2
