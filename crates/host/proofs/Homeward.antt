@@ -12,12 +12,15 @@ use Rattle.buffer.proofs.Overs.{over-front}
 use Rattle.fields.specs.Refusals.{Result, refused, good}
 use Rattle.fields.specs.Model.{Disk, byteCount}
 use Rattle.fields.specs.declared.refusal.Refusal.the-variants.{NoImage}
+use Rattle.tracks.specs.declared.track.Kind.the-variants.{Extended}
+use Rattle.image.specs.Dsk.{dskOf}
 use Rattle.store.specs.Store.{tableLength, roomOf, tableOf, dataOf, diskOf}
 use Rattle.store.specs.Calls.{outcome, loadOf, pennedTo}
 use Rattle.home.specs.Home.{imageFor, unwritable, homeOf}
 use Rattle.home.specs.Calls.{imageIn, extentOf, writtenAs}
 use Rattle.home.specs.Cases.{Twelve}
 use Rattle.home.proofs.Cases.{twelve-each}
+use Rattle.home.proofs.Homes.{home-back}
 use Rattle.home.proofs.Loads.{image-is, home-loads, home-holds}
 use Rattle.words.specs.Words.{refusalWord, extentWord}
 use Rattle.host.specs.Calls.{answered, pennedOn, worded, imageLengthOn, writeImageOn}
@@ -61,6 +64,10 @@ module _ (t b : List ℕ) (d : Disk) (holds : diskOf t b ≡ good d) where
           let k : s′ ≡ over s 0 x = cc in
           let n : w / 2 ^ 32 ≡ length x = omega arith in
           (λ i. take (n i) (k i)) ∙ ap (take (length x)) (over-front s x) ∙ take-at x (drop (length x) s) (length x) refl
+
+      -- read by the definition of the format, they are the disk
+      pub home-read : dskOf (take (w / 2 ^ 32) s′) ≡ good (record { kind = Extended; disk = d })
+      home-read = ap dskOf came-home ∙ home-back d can
 
       -- and `disk_new` of them answers 0 and leaves a store that holds the disk, whatever it held before
       pub comes-back : (t′ b′ : List ℕ) → length t′ ≡ tableLength → byteCount d ≤ roomOf b′

@@ -1,23 +1,27 @@
 -- The same saves and the same Read Data by exported calls, on the bytes of a new controller into which a fresh disk is put; none of them is refused.
 use mathlib.Core.Path.{_≡_, refl, sym, ap, subst, _∙_}
-use Prim.Native.Nat.{ℕ, zero, suc, _≤_, _<_}
+use Prim.Native.Nat.{ℕ, zero, suc, _^_, _/_, _≤_, _<_}
 use native.Mathlib.Omega.{arith}
 use mathlib.Core.Bool.{Bool, true, false, cond}
 use mathlib.Core.List.{List, [], _∷_, map}
 use mathlib.Core.Option.{some}
-use lib.ListN.{take}
+use lib.ListN.{length, take}
 use lib.Dec.{ltb}
 use borrow.Author.Tests.{ltb-true}
 use Rattle.fields.specs.Bytes.{byteAt}
 use Rattle.fields.specs.Refusals.{good}
 use Rattle.fields.specs.Model.{sizeOf, total}
 use Rattle.fields.proofs.Tests.{never}
-use Rattle.tracks.specs.Rows.{idsFrom}
+use Rattle.tracks.specs.declared.track.Kind.the-variants.{Extended}
+use Rattle.tracks.specs.Rows.{rowsFor, idsFrom}
+use Rattle.image.specs.Dsk.{dskOf}
 use Rattle.store.specs.Find.{findFrom}
 use Rattle.store.specs.Search.{sectorAt, runFrom, readAt}
 use Rattle.store.specs.Store.{contents}
 use Rattle.store.specs.Fresh.{blanks, formatted, freshFrom, fresh}
 use Rattle.disk.specs.Change.{change, saved}
+use Rattle.home.specs.Home.{units, padded, trackInfo, blockFor, cylindersOf, someTrack, sidesOf, imageFor}
+use Rattle.home.specs.Home.{risingFrom, rising, sideOver1, entriesOver204, sectorsOver29, trackOver65280, unwritable}
 use Rattle.codes.specs.Table.{maskRows, rows, commandBy, commandOf}
 use Rattle.registers.specs.Boxes.{newWorld, named, taken, changed, allChanged, putIn, responded}
 use Rattle.registers.specs.Ports.{changeDisk}
@@ -27,10 +31,11 @@ use Rattle.commands.specs.Commands.{seekIf, servedAs, readData, startAt, writeD
 use Rattle.sending.specs.Machine.{commandIf, commandByte, dataIf, dataByte, byteFor, sent, done, writePort}
 use Rattle.floppy.specs.Calls.{newFloppy}
 use Rattle.layout.specs.Layout.{numbersFor, floppyBytes}
+use Rattle.host.specs.Calls.{answered, writeImageOn}
 use Rattle.host.proofs.Same.{image-formed}
 use Rattle.saves.specs.Events.{Event, Answer, Run, run}
 use Rattle.saves.specs.Stages.{Stage, acted}
-use Rattle.saves.specs.Words.{Ready, bytesOf, savedBy, readBytes, sentIn}
+use Rattle.saves.specs.Words.{Ready, bytesOf, savedAt, addressOf, savedBy, readBytes, sentIn}
 use Rattle.saves.proofs.Witness.{start, example, again, other, sendAll, sent-all, E, A, O, B, L, Tried, example-is, again-is, other-is, back-is, same, differ, reads, reads-lose-none, Told, few, told-is}
 use Rattle.runs.specs.Hosts.{Host, called, seen, stageOf}
 use Rattle.runs.proofs.Any.{calls-run}
@@ -38,6 +43,7 @@ use Rattle.runs.proofs.Witness.{host, host-sound, host-stage, host-ready}
 use Rattle.lending.specs.Lendings.{Lending, exported, wordOf, lendingOf, seenIn, storeIn, Formed, Readable, allPass, Posts, wordsRead}
 use Rattle.lending.proofs.Exports.{sound-fitting, readable-formed, host-back}
 use Rattle.lending.proofs.Demands.{Stands, stands, machine-words, save-bytes, second-bytes, order-bytes, back-bytes}
+use Rattle.lending.proofs.SentHome.{save-home}
 
 -- ---- the bytes of the new controller are bytes
 
@@ -154,3 +160,15 @@ lent-back n h =
     (posts B (readBytes example 0x46 0 3 0x2A) (run exported E lentBytes .end) (run acted E start .end) at-e (sent-all (readBytes example 0x46 0 3 0x2A)) (tried .begun))
     (posts L (0xFF ∷ []) (run exported B (run exported E lentBytes .end) .end) (run acted B (run acted E start .end) .end) at-b last-sent (tried .last))
     (reads-lose-none n _) (few n h))
+
+-- ---- and the disk with the save on it goes home
+
+home-can : unwritable (savedBy example fresh) ≡ false
+unfolding unwritable rising risingFrom sideOver1 entriesOver204 cylindersOf sidesOf sectorsOver29 trackOver65280 someTrack blockFor trackInfo padded units rowsFor contents savedAt addressOf example fresh freshFrom formatted idsFrom blanks sizeOf change saved
+home-can = refl
+
+-- it is read from what is written
+pub lent-home : (s s′ : List ℕ) (w : ℕ) → length (imageFor (savedBy example fresh)) ≤ length s
+    → let end : Lending = run exported E lentBytes .end in
+    answered w s′ ≡ writeImageOn (end .table) (end .bytes) s → dskOf (take (w / 2 ^ 32) s′) ≡ good (record { kind = Extended; disk = savedBy example fresh })
+lent-home s s′ w room e = save-home example fresh lentBytes E lent-formed lent-ready example-is posts-first home-can s s′ w room e .0
