@@ -1,14 +1,13 @@
 -- The way home and back: the image that a disk is written as is read as that disk.
 use mathlib.Core.Path.{_≡_, refl, sym, ap, _∙_}
 use Prim.Native.Nat.{ℕ, zero, suc, _+_, _-_, _*_, _/_, _≤_, _<_}
-use native.Mathlib.Nat.{mul-le-mul-right}
 use native.Mathlib.Omega.{arith}
-use mathlib.Core.Bool.{Bool, true, false, not, cond, _&&_, _||_}
+use mathlib.Core.Bool.{Bool, true, false, not, cond}
 use mathlib.Core.List.{List, [], _∷_, _++_, append-assoc}
 use lib.ListN.{length, drop, set, replicate, length-append, length-replicate, getD-replicate, List·getD-append}
 use lib.Seq.{drop-at, getD-set-same, getD-set-other}
-use lib.Dec.{eqb, ltb}
-use borrow.Author.Tests.{le-leb, ltb-true, eqb-true, eqb-false, ne-eqb, eq-eqb, not-true}
+use lib.Dec.{eqb}
+use borrow.Author.Tests.{le-leb, eqb-true, eqb-false, ne-eqb, eq-eqb, not-true}
 use Rattle.buffer.specs.Over.{over}
 use Rattle.buffer.proofs.Overs.{over-length, over-set}
 use Rattle.buffer.proofs.Sames.{same-refl}
@@ -16,18 +15,18 @@ use Rattle.fields.specs.Bytes.{byteAt, textAt}
 use Rattle.fields.specs.Refusals.{Result, good}
 use Rattle.fields.specs.Model.{Sector, Track, Disk, trackBytes}
 use Rattle.fields.specs.declared.refusal.Refusal.the-variants.{NoImage}
-use Rattle.fields.proofs.Tests.{never, and-fst, and-snd, need-good}
+use Rattle.fields.proofs.Tests.{need-good}
 use Rattle.tracks.specs.Block.{trackText, rowPlace, rowOf, sectorOf, rowAt, sectorsFrom, storedFrom, dataEnd, trackIn, bodyOf, trackOf}
 use Rattle.tracks.specs.Rows.{rowsFor}
 use Rattle.tracks.specs.declared.track.Kind.the-variants.{Extended}
 use Rattle.image.specs.Dsk.{extendedText, imageKind, entries, headerOf, entryOf, tracksFrom, dskOf}
 use Rattle.store.specs.Store.{contents, sectorsAt, sumAt}
 use Rattle.store.proofs.Rounds.{rows-before, byte-back, sum-back, sectors-back, part-after}
-use Rattle.disk.specs.Change.{earlier}
-use Rattle.home.specs.Home.{units, padded, trackInfo, blockFor, blocksFor, homeText, cylindersOf, someTrack, sidesOf, entryFor}
-use Rattle.home.specs.Home.{sizesOver, sizeTable, diskInfo, imageFor, risingFrom, rising, unwritable, homeOf}
-use Rattle.home.proofs.Sizes.{units-up, head-length, block-length, block-size, Each, Fine, side-counts}
+use Rattle.home.specs.Home.{units, padded, trackInfo, blockFor, blocksFor, homeText, cylindersOf, sidesOf, entryFor}
+use Rattle.home.specs.Home.{sizesOver, sizeTable, diskInfo, imageFor, unwritable, homeOf}
+use Rattle.home.proofs.Sizes.{units-up, head-length, block-length, block-size, Each, each-map, Fine}
 use Rattle.home.proofs.Sizes.{is-rising, entries-few, all-fine, table-long, disk-block-length, image-length}
+use Rattle.home.proofs.Orders.{Ordered, rising-ordered}
 
 -- what pads bytes
 abbrev padding : List ℕ → List ℕ
@@ -112,47 +111,6 @@ module _ (t : Track) (few : length (t .sectors) ≤ 29) (rest : List ℕ) where
       } in
       simp (le-leb 12 (length b) (omega arith), text, le-leb _ _ inside, le-leb _ _ whole) (ap good same)
 
--- ---- the order of the entries
-
--- tracks whose entries rise, the first of them from a number on
-unfoldable Ordered : ℕ → ℕ → Disk → Type 0
-Ordered sides from [] = Unit {0}
-Ordered sides from (t ∷ ts) = (from ≤ entryFor sides t) × Ordered sides (entryFor sides t + 1) ts
-
--- every side is less than the number of sides
-sides-within : (n m k : ℕ) (d : Disk) → Each (Fine n m) d → sidesOf d ≤ k → Each (λ t. t .side < k) d
-unfolding Each sidesOf someTrack
-sides-within n m k [] f h = tt
-sides-within n m k (t ∷ ts) f h =
-    let s = side-counts (t .side) (someTrack (λ u. eqb (u .side) 1) ts) k (f .0 .side) h in
-    (s .0, sides-within n m k ts (f .1) (s .1))
-
--- a track that is earlier than another has the smaller entry
-earlier-entry : (sides : ℕ) (t u : Track) → t .side < sides → earlier t u ≡ true → entryFor sides t + 1 ≤ entryFor sides u
-earlier-entry sides t u h e =
-    by (ltb (t .cylinder) (u .cylinder)) (eqb (t .cylinder) (u .cylinder)) (ltb (t .side) (u .side))
-    (ltb-true (t .cylinder) (u .cylinder)) (eqb-true (t .cylinder) (u .cylinder)) (ltb-true (t .side) (u .side)) e
-  where
-    by : (x y z : Bool) → (x ≡ true → t .cylinder < u .cylinder) → (y ≡ true → t .cylinder ≡ u .cylinder) → (z ≡ true → t .side < u .side)
-        → (x || (y && z)) ≡ true → entryFor sides t + 1 ≤ entryFor sides u
-    by true y z f g k e = let l : t .cylinder + 1 ≤ u .cylinder = omega (arith, f refl) in omega (arith, mul-le-mul-right sides l)
-    by false true true f g k e = let q : t .cylinder ≡ u .cylinder = g refl in rw q (omega (arith, k refl))
-    by false true false f g k e = never (cc)
-    by false false z f g k e = never (cc)
-
--- tracks that rise have entries that rise: those behind a track, and all
-rising-after : (sides : ℕ) (t : Track) (ts : Disk) → t .side < sides → Each (λ u. u .side < sides) ts → risingFrom t ts ≡ true
-    → Ordered sides (entryFor sides t + 1) ts
-unfolding Each Ordered risingFrom
-rising-after sides t [] h f e = tt
-rising-after sides t (u ∷ us) h f e =
-    (earlier-entry sides t u h (and-fst (earlier t u) (risingFrom u us) e), rising-after sides u us (f .0) (f .1) (and-snd (earlier t u) (risingFrom u us) e))
-
-rising-ordered : (sides : ℕ) (d : Disk) → Each (λ u. u .side < sides) d → rising d ≡ true → Ordered sides 0 d
-unfolding Each Ordered rising
-rising-ordered sides [] f e = tt
-rising-ordered sides (t ∷ ts) f e = (omega arith, rising-after sides t ts (f .0) (f .1) e)
-
 -- ---- the table
 
 -- the size of the track that has an entry, or another number where none has it
@@ -229,7 +187,7 @@ module _ (b : List ℕ) (sides n : ℕ) where
   tracks-back (suc left) i at (t ∷ ts) e f o table blocks =
       let m : ℕ = units (trackBytes t) in
       let next : i + 1 + left ≡ n = omega arith in
-      let size : length (blockFor t) ≡ 256 * suc m = omega (arith, block-length t (f .0 .sectors)) in
+      let size : length (blockFor t) ≡ 256 * suc m = omega (arith, block-length t (f .0 .fit .sectors)) in
       let past : drop (at + 256 * suc m) b ≡ blocksFor ts = part-after b at (blockFor t) (blocksFor ts) blocks (256 * suc m) size in
       by (eqb i (entryFor sides t)) refl
       (λ q. tracks-back left (i + 1) (at + 256 * suc m) ts next (f .1) (rw q (o .1))
@@ -242,7 +200,7 @@ module _ (b : List ℕ) (sides n : ℕ) where
           → tracksFrom Extended b i at (suc left) ≡ good (t ∷ ts)
       by true y here later =
           let q : i ≡ entryFor sides t = eqb-true i (entryFor sides t) y in
-          let few : length (t .sectors) ≤ 29 = f .0 .sectors in
+          let few : length (t .sectors) ≤ 29 = f .0 .fit .sectors in
           let s : length (blockFor t) / 256 ≡ suc (units (trackBytes t)) = omega (arith, block-size t few) in
           read-one b i at left t ts (units (trackBytes t)) (table i (omega arith) (omega arith) ∙ size-here sides t ts i 0 q ∙ s)
           (ap (trackOf Extended) blocks ∙ block-back t few (blocksFor ts)) (here q)
@@ -283,8 +241,8 @@ module _ (d : Disk) (can : unwritable d ≡ false) where
   -- the tracks' entries rise
   ordered : Ordered (sidesOf d) 0 d
   ordered =
-      let s : sidesOf d ≤ sidesOf d = omega arith in
-      rising-ordered (sidesOf d) d (sides-within (sidesOf d) (cylindersOf d * sidesOf d) (sidesOf d) d (all-fine d can) s) (is-rising d can)
+      let n : ℕ = cylindersOf d * sidesOf d in
+      rising-ordered (sidesOf d) d (each-map (Fine (sidesOf d) n) (λ t. t .side < sidesOf d) (λ t f. f .within) d (all-fine d can)) (is-rising d can)
 
   -- what stands in the table
   table-is : (k : ℕ) → k < cylindersOf d * sidesOf d → byteAt (imageFor d) (0x34 + k) ≡ sizeOr (sidesOf d) d k 0

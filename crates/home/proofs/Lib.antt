@@ -1,5 +1,6 @@
 -- Laws that more than one proof cites, and those that the crates above use.
 pub mod Sizes
+pub mod Orders
 pub mod Homes
 pub mod Cases
 pub mod Examples

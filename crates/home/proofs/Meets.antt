@@ -84,8 +84,8 @@ pub record Meeting (t : List ℕ) (left at sectors bytes : ℕ) (m : Met) : Type
 -- what is met with one more track, its units and its cylinders worked out before
 pub met-is : (m : Met) (c s n b u g : ℕ) → u ≡ units b → g ≡ max (m .cylinders) (c + 1)
     → (record {
-      next = 256 * c + s + 1;
-      fits = ((((m .fits && leb (m .next) (256 * c + s)) && leb s 1) && leb n 29) && leb (256 + 256 * u) 65280);
+      next = c * 256 + s + 1;
+      fits = ((((m .fits && leb (m .next) (c * 256 + s)) && leb s 1) && leb n 29) && leb (256 + 256 * u) 65280);
       cylinders = g;
       second = m .second || eqb s 1;
       long = m .long + (256 + 256 * u);

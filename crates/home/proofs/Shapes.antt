@@ -6,7 +6,7 @@ use mathlib.Core.List.{List, [], _∷_}
 use mathlib.Core.Bool.{Bool, true, false, not, cond, _&&_, _||_, or-false, or-assoc}
 use lib.ListN.{length}
 use lib.Dec.{eqb, leb, ltb}
-use borrow.Author.Tests.{le-leb, lt-leb, leb-true, ltb-true, lt-ltb, le-ltb, ltb-false, eqb-true, eq-eqb}
+use borrow.Author.Tests.{le-leb, leb-true, le-ltb}
 use Rattle.fields.specs.Bytes.{byteAt}
 use Rattle.fields.specs.Model.{Track, Disk, total, trackBytes}
 use Rattle.fields.proofs.Tests.{never, and-fst, and-snd}
@@ -14,14 +14,14 @@ use Rattle.store.specs.Store.{roomOf, sectorsAt, countAt, nextAt, trackSum, tra
 use Rattle.store.proofs.Rounds.{sizeIn}
 use Rattle.store.proofs.Checks.{kept, room-in}
 use Rattle.store.proofs.Founds.{sectors-count}
-use Rattle.disk.specs.Change.{earlier}
 use Rattle.disk.proofs.Holds.{sizes-are}
-use Rattle.home.specs.Home.{units, blockFor, cylindersOf, someTrack, sidesOf, imageFor, risingFrom, rising, sideOver1, sectorsOver29, trackOver65280, entriesOver204, unwritable}
+use Rattle.home.specs.Home.{units, blockFor, cylindersOf, someTrack, sidesOf, entryFor, imageFor, sideOver1, sectorsOver29, trackOver65280, entriesOver204, unwritable}
 use Rattle.home.specs.Passes.{metNone, metWith, metAt, sidesIf, shapeBy, shapeIf, diskAt}
 use Rattle.home.specs.declared.measure.Met.{Met}
 use Rattle.home.specs.declared.measure.Shaped.the-variants as shaped
 use Rattle.fields.specs.declared.refusal.Refusal.the-variants.{NoImage}
-use Rattle.home.proofs.Sizes.{Each, Fine, block-length, is-rising, entries-few, all-fine, image-length}
+use Rattle.home.proofs.Sizes.{Each, each-map, Fit, Fine, block-length, is-rising, entries-few, all-fine, image-length}
+use Rattle.home.proofs.Orders.{Ordered, rising-ordered, ordered-rising}
 
 -- ---- the tracks of a table as a disk
 
@@ -58,124 +58,64 @@ met-length m (t ∷ ts) = omega (arith, met-length (metWith m (t .cylinder) (t .
 
 -- ---- whether each track fits
 
--- cylinder and side as one number
-abbrev keyOf : Track → ℕ
-keyOf t = 256 * t .cylinder + t .side
-
--- a track that fits
-record Fit (t : Track) : Type 0 where
-  side : t .side ≤ 1
-  sectors : length (t .sectors) ≤ 29
-  block : 256 + 256 * units (trackBytes t) ≤ 65280
-
--- tracks that fit, and rise from a least number on
-unfoldable Fitting : ℕ → Disk → Type 0
-Fitting next [] = Unit {0}
-Fitting next (t ∷ ts) = (next ≤ keyOf t) × (Fit t × Fitting (keyOf t + 1) ts)
-
--- all that were met fit: those before, and these
-met-fits : (m : Met) (d : Disk) → metOf m d .fits ≡ true → (m .fits ≡ true) × Fitting (m .next) d
-unfolding metOf metWith Fitting
-met-fits m [] h = (h, tt)
+-- all that were met fit and rise: those before, and these
+met-fits : (m : Met) (d : Disk) → metOf m d .fits ≡ true → (m .fits ≡ true) × (Each Fit d × Ordered 256 (m .next) d)
+unfolding metOf metWith Each Ordered
+met-fits m [] h = (h, (tt, tt))
 met-fits m (t ∷ ts) h =
     let r = met-fits (metWith m (t .cylinder) (t .side) (length (t .sectors)) (trackBytes t)) ts h in
-    let x : Bool = leb (m .next) (keyOf t) in
+    let x : Bool = leb (m .next) (entryFor 256 t) in
     let y : Bool = leb (t .side) 1 in
     let z : Bool = leb (length (t .sectors)) 29 in
     let w : Bool = leb (256 + 256 * units (trackBytes t)) 65280 in
     let a : (((m .fits && x) && y) && z) ≡ true = and-fst (((m .fits && x) && y) && z) w (r .0) in
     let b : ((m .fits && x) && y) ≡ true = and-fst ((m .fits && x) && y) z a in
-    let c : (m .fits && x) ≡ true = and-fst (m .fits && x) y b in (
-      and-fst (m .fits) x c,
-      (
-        leb-true _ _ (and-snd (m .fits) x c),
-        (
-          record {
-            side = leb-true _ _ (and-snd (m .fits && x) y b);
-            sectors = leb-true _ _ (and-snd ((m .fits && x) && y) z a);
-            block = leb-true _ _ (and-snd (((m .fits && x) && y) && z) w (r .0));
-          },
-          r .1,
-        ),
-      ),
-    )
+    let c : (m .fits && x) ≡ true = and-fst (m .fits && x) y b in
+    let fit : Fit t = record {
+      side = leb-true _ _ (and-snd (m .fits && x) y b);
+      sectors = leb-true _ _ (and-snd ((m .fits && x) && y) z a);
+      block = leb-true _ _ (and-snd (((m .fits && x) && y) && z) w (r .0));
+    } in
+    (and-fst (m .fits) x c, ((fit, r .1 .0), (leb-true _ _ (and-snd (m .fits) x c), r .1 .1)))
 
-fits-met : (m : Met) (d : Disk) → m .fits ≡ true → Fitting (m .next) d → metOf m d .fits ≡ true
-unfolding metOf metWith Fitting
-fits-met m [] h f = h
-fits-met m (t ∷ ts) h f =
-    fits-met _ ts (simp (h, le-leb _ _ (f .0), le-leb _ _ (f .1 .0 .side), le-leb _ _ (f .1 .0 .sectors), le-leb _ _ (f .1 .0 .block))) (f .1 .1)
+fits-met : (m : Met) (d : Disk) → m .fits ≡ true → Each Fit d → Ordered 256 (m .next) d → metOf m d .fits ≡ true
+unfolding metOf metWith Each Ordered
+fits-met m [] h f o = h
+fits-met m (t ∷ ts) h f o =
+    fits-met _ ts (simp (h, le-leb _ _ (o .0), le-leb _ _ (f .0 .side), le-leb _ _ (f .0 .sectors), le-leb _ _ (f .0 .block))) (f .1) (o .1)
 
--- ---- a disk whose tracks fit, and one that can be written
+-- ---- a disk whose tracks fit and rise, and one that can be written
 
--- where sides are 0 and 1, a track is earlier than another exactly where its number is less
-key-earlier : (t u : Track) → t .side ≤ 1 → u .side ≤ 1 → keyOf t + 1 ≤ keyOf u → earlier t u ≡ true
-key-earlier t u h k l = by (ltb (t .cylinder) (u .cylinder)) (ltb-false (t .cylinder) (u .cylinder))
-  where
-    by : (v : Bool) → (v ≡ false → u .cylinder ≤ t .cylinder) → v || (eqb (t .cylinder) (u .cylinder) && ltb (t .side) (u .side)) ≡ true
-    by true f = refl
-    by false f =
-        let m : u .cylinder ≤ t .cylinder = f refl in
-        let e : t .cylinder ≡ u .cylinder = omega arith in
-        let s : t .side < u .side = omega arith in
-        rw (eq-eqb _ _ e, lt-ltb _ _ s) refl
-
-earlier-key : (t u : Track) → t .side ≤ 1 → earlier t u ≡ true → keyOf t + 1 ≤ keyOf u
-earlier-key t u h e = by (ltb (t .cylinder) (u .cylinder)) (ltb-true (t .cylinder) (u .cylinder)) e
-  where
-    by : (v : Bool) → (v ≡ true → t .cylinder < u .cylinder) → v || (eqb (t .cylinder) (u .cylinder) && ltb (t .side) (u .side)) ≡ true → keyOf t + 1 ≤ keyOf u
-    by true f q = let l : t .cylinder < u .cylinder = f refl in omega arith
-    by false f q =
-        let c : t .cylinder ≡ u .cylinder = eqb-true _ _ (and-fst (eqb (t .cylinder) (u .cylinder)) (ltb (t .side) (u .side)) q) in
-        let s : t .side < u .side = ltb-true _ _ (and-snd (eqb (t .cylinder) (u .cylinder)) (ltb (t .side) (u .side)) q) in
-        omega arith
-
-fit-rising : (t : Track) (ts : Disk) → t .side ≤ 1 → Fitting (keyOf t + 1) ts → risingFrom t ts ≡ true
-unfolding risingFrom Fitting
-fit-rising t [] h f = refl
-fit-rising t (u ∷ us) h f = rw (key-earlier t u h (f .1 .0 .side) (f .0)) (fit-rising u us (f .1 .0 .side) (f .1 .1))
+-- their sides are less than 256
+small-sides : (d : Disk) → Each Fit d → Each (λ t. t .side < 256) d
+small-sides = each-map Fit (λ t. t .side < 256) (λ t f. omega (arith, f .side))
 
 -- a test that no track that fits passes
-none-fits : (p : Track → Bool) → ((t : Track) → Fit t → p t ≡ false) → (n : ℕ) (d : Disk) → Fitting n d → someTrack p d ≡ false
-unfolding someTrack Fitting
-none-fits p f n [] g = refl
-none-fits p f n (t ∷ ts) g = rw (f t (g .1 .0)) (none-fits p f (keyOf t + 1) ts (g .1 .1))
+none-fits : (p : Track → Bool) → ((t : Track) → Fit t → p t ≡ false) → (d : Disk) → Each Fit d → someTrack p d ≡ false
+unfolding someTrack Each
+none-fits p f [] g = refl
+none-fits p f (t ∷ ts) g = rw (f t (g .0)) (none-fits p f ts (g .1))
 
 -- tracks that fit and rise, with few entries, can be written
-fit-can : (d : Disk) → Fitting 0 d → cylindersOf d * sidesOf d ≤ 204 → unwritable d ≡ false
-unfolding unwritable rising sideOver1 entriesOver204 sectorsOver29 trackOver65280
-fit-can d f l =
+fit-can : (d : Disk) → Each Fit d → Ordered 256 0 d → cylindersOf d * sidesOf d ≤ 204 → unwritable d ≡ false
+unfolding unwritable sideOver1 entriesOver204 sectorsOver29 trackOver65280
+fit-can d f o l =
     let block : (t : Track) → Fit t → ltb 65280 (length (blockFor t)) ≡ false =
     λ t g. let m : length (blockFor t) ≤ 65280 = omega (arith, block-length t (g .sectors), g .block) in le-ltb 65280 (length (blockFor t)) m in
     rw (
-      rises d f,
-      none-fits (λ t. ltb 1 (t .side)) (λ t g. le-ltb _ _ (g .side)) 0 d f,
+      ordered-rising 256 0 d (small-sides d f) o,
+      none-fits (λ t. ltb 1 (t .side)) (λ t g. le-ltb _ _ (g .side)) d f,
       le-ltb 204 _ l,
-      none-fits (λ t. ltb 29 (length (t .sectors))) (λ t g. le-ltb _ _ (g .sectors)) 0 d f,
-      none-fits (λ t. ltb 65280 (length (blockFor t))) block 0 d f,
+      none-fits (λ t. ltb 29 (length (t .sectors))) (λ t g. le-ltb _ _ (g .sectors)) d f,
+      none-fits (λ t. ltb 65280 (length (blockFor t))) block d f,
     ) refl
-  where
-    rises : (x : Disk) → Fitting 0 x → rising x ≡ true
-    rises [] g = unfold rising in refl
-    rises (t ∷ ts) g = unfold rising Fitting in fit-rising t ts (g .1 .0 .side) (g .1 .1)
 
 -- and tracks of a disk that can be written fit and rise
-can-fit : (sides n : ℕ) (t : Track) (ts : Disk) → t .side ≤ 1 → risingFrom t ts ≡ true → Each (Fine sides n) ts → Fitting (keyOf t + 1) ts
-unfolding risingFrom Each Fitting
-can-fit sides n t [] h r f = tt
-can-fit sides n t (u ∷ us) h r f = (
-  earlier-key t u h (and-fst (earlier t u) (risingFrom u us) r),
-  (
-    record { side = f .0 .side; sectors = f .0 .sectors; block = f .0 .block },
-    can-fit sides n u us (f .0 .side) (and-snd (earlier t u) (risingFrom u us) r) (f .1),
-  ),
-)
+can-fit : (d : Disk) → unwritable d ≡ false → Each Fit d
+can-fit d can = each-map (Fine (sidesOf d) (cylindersOf d * sidesOf d)) Fit (λ t f. f .fit) d (all-fine d can)
 
-can-fitting : (sides n : ℕ) (d : Disk) → rising d ≡ true → Each (Fine sides n) d → Fitting 0 d
-unfolding rising Each Fitting
-can-fitting sides n [] r f = tt
-can-fitting sides n (t ∷ ts) r f =
-    (omega arith, (record { side = f .0 .side; sectors = f .0 .sectors; block = f .0 .block }, can-fit sides n t ts (f .0 .side) r (f .1)))
+can-rise : (d : Disk) → unwritable d ≡ false → Ordered 256 0 d
+can-rise d can = rising-ordered 256 d (small-sides d (can-fit d can)) (is-rising d can)
 
 -- ---- the shape
 
@@ -194,7 +134,7 @@ shape-disk d = by (unwritable d) refl
         (shaped.Of (record { cylinders = metOf metNone d .cylinders; sides = sidesIf (metOf metNone d .second); long = metOf metNone d .long })) (shaped.Refused NoImage)
         ≡ shapeIf v d
     by false e =
-        let fits : metOf metNone d .fits ≡ true = fits-met metNone d refl (can-fitting (sidesOf d) (cylindersOf d * sidesOf d) d (is-rising d e) (all-fine d e)) in
+        let fits : metOf metNone d .fits ≡ true = fits-met metNone d refl (can-fit d e) (can-rise d e) in
         let long : metOf metNone d .long ≡ length (imageFor d) = met-length metNone d ∙ sym (image-length d e) in
         rw (sides, cylinders, fits, le-leb _ _ (entries-few d e), long) refl
     by true e = rw (sides, cylinders) (other (metOf metNone d .fits && leb (cylindersOf d * sidesOf d) 204) refl)
@@ -203,6 +143,6 @@ shape-disk d = by (unwritable d) refl
             → cond v (shaped.Of (record { cylinders = cylindersOf d; sides = sidesOf d; long = metOf metNone d .long })) (shaped.Refused NoImage) ≡ shaped.Refused NoImage
         other false q = refl
         other true q =
-            let f : Fitting 0 d = met-fits metNone d (and-fst (metOf metNone d .fits) (leb (cylindersOf d * sidesOf d) 204) q) .1 in
-            let no : unwritable d ≡ false = fit-can d f (leb-true _ _ (and-snd (metOf metNone d .fits) (leb (cylindersOf d * sidesOf d) 204) q)) in
+            let f = met-fits metNone d (and-fst (metOf metNone d .fits) (leb (cylindersOf d * sidesOf d) 204) q) .1 in
+            let no : unwritable d ≡ false = fit-can d (f .0) (f .1) (leb-true _ _ (and-snd (metOf metNone d .fits) (leb (cylindersOf d * sidesOf d) 204) q)) in
             never (cc)

@@ -60,12 +60,23 @@ unfoldable pub Each : (Track → Type 0) → Disk → Type 0
 Each P [] = Unit {0}
 Each P (t ∷ ts) = P t × Each P ts
 
--- a track that has a block, and an entry among so many
-pub record Fine (sides n : ℕ) (t : Track) : Type 0 where
+-- what holds of it because something else does
+pub each-map : (P Q : Track → Type 0) → ((t : Track) → P t → Q t) → (d : Disk) → Each P d → Each Q d
+unfolding Each
+each-map P Q f [] e = tt
+each-map P Q f (t ∷ ts) e = (f t (e .0), each-map P Q f ts (e .1))
+
+-- a track that has a block
+pub record Fit (t : Track) : Type 0 where
   pub side : t .side ≤ 1
-  pub entry : entryFor sides t < n
   pub sectors : length (t .sectors) ≤ 29
   pub block : 256 + 256 * units (trackBytes t) ≤ 65280
+
+-- and an entry among so many
+pub record Fine (sides n : ℕ) (t : Track) : Type 0 where
+  pub fit : Fit t
+  pub within : t .side < sides
+  pub entry : entryFor sides t < n
 
 -- neither part of a disjunction that does not hold
 pub neither : (x y : Bool) → (x || y) ≡ false → (x ≡ false) × (y ≡ false)
@@ -73,7 +84,7 @@ neither true y e = never (cc)
 neither false y e = (refl, e)
 
 -- a track on side 1 makes two sides, and those of the tracks behind it are no more
-pub side-counts : (s : ℕ) (more : Bool) (n : ℕ) → s ≤ 1 → cond (eqb s 1 || more) 2 1 ≤ n → (s < n) × (cond more 2 1 ≤ n)
+side-counts : (s : ℕ) (more : Bool) (n : ℕ) → s ≤ 1 → cond (eqb s 1 || more) 2 1 ≤ n → (s < n) × (cond more 2 1 ≤ n)
 side-counts s more n h l = by (eqb s 1) more (eqb-false s 1) l
   where
     by : (one m : Bool) → (one ≡ false → s ≡ 1 → ⊥) → cond (one || m) 2 1 ≤ n → (s < n) × (cond m 2 1 ≤ n)
@@ -97,10 +108,9 @@ fine-all c n (t ∷ ts) hc hn side sectors long =
     let m = side-counts (t .side) (someTrack (λ u. eqb (u .side) 1) ts) n s hn in
     let l : t .cylinder + 1 ≤ c = omega arith in (
       record {
-        side = s;
+        fit = record { side = s; sectors = k; block = omega (arith, block-length t k) };
+        within = m .0;
         entry = omega (arith, m .0, mul-le-mul-right n l);
-        sectors = k;
-        block = omega (arith, block-length t k);
       },
       fine-all c n ts (omega arith) (m .1) (x .1) (y .1) (z .1),
     )
@@ -120,7 +130,7 @@ pub blocks-length : (sides n : ℕ) (d : Disk) → Each (Fine sides n) d → len
 unfolding Each blocksFor total
 blocks-length sides n [] f = refl
 blocks-length sides n (t ∷ ts) f =
-    length-append (blockFor t) (blocksFor ts) ∙ ap₂ _+_ (block-length t (f .0 .sectors)) (blocks-length sides n ts (f .1))
+    length-append (blockFor t) (blocksFor ts) ∙ ap₂ _+_ (block-length t (f .0 .fit .sectors)) (blocks-length sides n ts (f .1))
 
 module _ (d : Disk) (can : unwritable d ≡ false) where
   -- the tracks rise

@@ -40,7 +40,7 @@ use Rattle.home.specs.Passes.{shapedAs, diskAt, Outbound, infoBy, emptyB
 use Rattle.home.specs.declared.measure.Shape.{Shape}
 use Rattle.home.specs.declared.measure.Shaped.{Shaped}
 use Rattle.home.specs.declared.measure.Shaped.the-variants as shaped
-use Rattle.home.proofs.Sizes.{units-up, padded-length, block-length, block-size, Each, Fine, blocks-length, entries-few, all-fine}
+use Rattle.home.proofs.Sizes.{units-up, padded-length, block-length, block-size, Each, each-map, Fine, blocks-length, entries-few, all-fine}
 use Rattle.home.proofs.Sizes.{table-long, disk-block-length, image-length}
 use Rattle.home.proofs.Judges.{image-refused, image-shaped}
 
@@ -260,11 +260,7 @@ track-asks t b image sides at place to x n stored en es =
 
 -- entries among more
 wider : (sides n : ℕ) (d : Disk) → n ≤ 204 → Each (Fine sides n) d → Each (Fine sides 204) d
-unfolding Each
-wider sides n [] h f = f
-wider sides n (t ∷ ts) h f =
-    let g = f .0 in
-    (record { side = g .side; entry = omega (arith, g .entry); sectors = g .sectors; block = g .block }, wider sides n ts h (f .1))
+wider sides n d h = each-map (Fine sides n) (Fine sides 204) (λ t g. record { fit = g .fit; within = g .within; entry = omega (arith, g .entry) }) d
 
 -- there are no more than two sides
 two-sides : (d : Disk) → sidesOf d ≤ 2
@@ -325,13 +321,13 @@ module _ (t b block₀ image₀ : List ℕ) where
       stored-here = track-stored t b at place bytes-in
 
       block-long-here : length (blockFor track) ≡ 256 + 256 * units (trackSum t at)
-      block-long-here = block-length track (both .0 .sectors) ∙ ap (λ (m : ℕ). 256 + 256 * units m) stored-here
+      block-long-here = block-length track (both .0 .fit .sectors) ∙ ap (λ (m : ℕ). 256 + 256 * units m) stored-here
 
       blocks-long : length (blocksFor (tracksAt t b at place left)) ≡ 256 + 256 * units (trackSum t at) + length (blocksFor rest)
       blocks-long = ap length blocks-both ∙ length-append (blockFor track) (blocksFor rest) ∙ ap (λ (n : ℕ). n + length (blocksFor rest)) block-long-here
 
       size-here : length (blockFor track) / 256 ≡ 1 + units (trackSum t at)
-      size-here = block-size track (both .0 .sectors) ∙ ap (λ (m : ℕ). 1 + units m) stored-here
+      size-here = block-size track (both .0 .fit .sectors) ∙ ap (λ (m : ℕ). 1 + units m) stored-here
 
       -- what is known of it
       pub putting-here : Here t b image sides at place to
@@ -342,12 +338,12 @@ module _ (t b block₀ image₀ : List ℕ) where
           record {
             long = p .long;
             rows = within t at left tableLength h (p .ends);
-            few = omega (arith, f .sectors, n);
+            few = omega (arith, f .fit .sectors, n);
             bytes = bytes-in;
             room = omega (arith, p .room, p .same-image, l);
             two = p .two;
             entry = f .entry;
-            size = rw (← stored-here) (f .block);
+            size = rw (← stored-here) (f .fit .block);
           }
 
       -- the track's block is laid, and its size

@@ -29,8 +29,8 @@ metNone = record { next = 0; fits = true; cylinders = 0; second = false; long = 
 -- one more track, by cylinder, side, number of sectors and stored bytes
 unfoldable pub metWith : Met → ℕ → ℕ → ℕ → ℕ → Met
 metWith m c s n stored = record {
-  next = 256 * c + s + 1;
-  fits = ((((m .fits && leb (m .next) (256 * c + s)) && leb s 1) && leb n 29) && leb (256 + 256 * units stored) 65280);
+  next = c * 256 + s + 1;
+  fits = ((((m .fits && leb (m .next) (c * 256 + s)) && leb s 1) && leb n 29) && leb (256 + 256 * units stored) 65280);
   cylinders = max (m .cylinders) (c + 1);
   second = m .second || eqb s 1;
   long = m .long + (256 + 256 * units stored);

@@ -70,7 +70,7 @@ fn meet(m: Met, cylinder: usize, side: usize, sectors: usize, stored: usize) -> 
     requires { ⌜ (cylinder < 256) × ((side < 256) × ((stored < 4294967296) × (m .long < 4294967296))) ⌝ }
     ensures { λ r. ⌜ r ≡ metWith m cylinder side sectors stored ⌝ }
 {
-    let here = 256 * cylinder + side;
+    let here = cylinder * 256 + side;
     let block = 256 + 256 * units_of(stored);
     Met {
         next: here + 1,
