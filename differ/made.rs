@@ -6,7 +6,7 @@ mod plans;
 use std::collections::BTreeSet;
 
 use crate::chance::Chance;
-use crate::dsk::{Track, cut};
+use crate::dsk::cut;
 
 /// More stored bytes than this are not asked of the Rust, which takes memory for
 /// each.
@@ -46,11 +46,6 @@ pub fn nearly_full(chance: &mut Chance) -> Vec<u8> {
         _ => plans::rows(&[10; 204]),
     };
     plan.image()
-}
-
-/// A good image with these tracks, in this order.
-pub fn of(tracks: &[Track]) -> Vec<u8> {
-    plans::of(tracks).image()
 }
 
 /// A good image of a usual disk: 40 tracks of nine sectors of 512 bytes.

@@ -14,6 +14,8 @@ mod dump;
 mod errors;
 #[path = "../oracle/home.rs"]
 mod home;
+#[path = "../oracle/home_edges.rs"]
+mod home_edges;
 #[allow(dead_code)]
 #[path = "../oracle/noise.rs"]
 mod noise;

@@ -94,6 +94,11 @@ impl Track {
         self.list_end().max(data.unwrap_or(0))
     }
 
+    /// How many blocks of 256 bytes the track needs.
+    pub fn blocks(&self) -> usize {
+        self.end().div_ceil(0x100)
+    }
+
     fn write(&self, block: &mut [u8]) {
         block[..12].copy_from_slice(b"Track-Info\r\n");
         block[0x10] = self.cylinder;
@@ -133,6 +138,21 @@ impl Plan {
         let tracks: Vec<Track> = tracks.into_iter().collect();
         let table = vec![2; tracks.len()];
         Plan::extended(table.len() as u8, 1, &table).row(0x200, tracks)
+    }
+
+    /// An extended image of one side with these tracks, each behind the blocks that the
+    /// one before it needs. Only the last of them may be too long for the table.
+    pub fn packed(tracks: &[Track]) -> Plan {
+        let blocks = tracks.iter().map(|track| track.blocks().min(255) as u8);
+        let table: Vec<u8> = blocks.collect();
+        let places = table.iter().scan(FIRST, |next, &blocks| {
+            let place = *next;
+            *next += usize::from(blocks) * 0x100;
+            Some(place)
+        });
+        let plan = Plan::extended(table.len() as u8, 1, &table);
+        let tracks = places.zip(tracks.iter().cloned());
+        tracks.fold(plan, |plan, (place, track)| plan.track(place, track))
     }
 
     fn new(text: &[u8; 0x22], fields: &[u8]) -> Plan {

@@ -23,21 +23,6 @@ pub fn any(chance: &mut Chance) -> Plan {
     }
 }
 
-/// These tracks, in this order, each behind the end of the one before it. Only the last
-/// of them may be too long for the table.
-pub fn of(tracks: &[Track]) -> Plan {
-    let blocks = tracks.iter().map(|track| needed(track).min(255) as u8);
-    let table: Vec<u8> = blocks.collect();
-    let places = table.iter().scan(FIRST, |next, &blocks| {
-        let place = *next;
-        *next += usize::from(blocks) * 0x100;
-        Some(place)
-    });
-    let plan = Plan::extended(table.len() as u8, 1, &table);
-    let tracks = places.zip(tracks.iter().cloned());
-    tracks.fold(plan, |plan, (place, track)| plan.track(place, track))
-}
-
 /// A few tracks, extended or normal.
 pub fn small(chance: &mut Chance) -> Plan {
     let sides = chance.of(&[1, 1, 1, 2, 2, 3, 0]);
@@ -64,15 +49,9 @@ pub fn small(chance: &mut Chance) -> Plan {
     tracks.into_iter().fold(plan, place)
 }
 
-/// How many blocks of 256 bytes the track needs.
-fn needed(track: &Track) -> usize {
-    let bytes = Plan::of([track.clone()]).image().len() - FIRST;
-    bytes.div_ceil(0x100)
-}
-
 /// How many blocks of 256 bytes the track has in the table: mostly what it needs.
 fn blocks(track: &Track, chance: &mut Chance) -> u8 {
-    let needed = needed(track).min(250) as u8;
+    let needed = track.blocks().min(250) as u8;
     match chance.below(12) {
         0 => 1 + chance.small(needed),
         1 => needed + chance.small(4),
@@ -221,7 +200,7 @@ fn long_track(chance: &mut Chance) -> Plan {
     let lengths = (1..).zip([first, bytes as u16 - first]);
     let sectors = lengths.map(|(r, length)| Sector::stored([1, 0, r, 2], length));
     let long = Track::new(1, 0, sectors.collect());
-    of(&[track(0, 1, chance, stored), long])
+    Plan::packed(&[track(0, 1, chance, stored), long])
 }
 
 /// Several tracks that are read at one place.
