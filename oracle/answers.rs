@@ -8,7 +8,7 @@ use raze::disk::Disk;
 
 use crate::capacities::Totals;
 use crate::stream::Record;
-use crate::{Failure, dump, errors};
+use crate::{Failure, dump, errors, home};
 
 /// Loads the image of the record with the Rust and prints its answer.
 pub fn print(record: &Record, out: &mut impl Write) -> Result<(), Failure> {
@@ -40,5 +40,15 @@ fn print_disk(disk: &Disk, out: &mut impl Write) -> io::Result<()> {
 
 fn print_tracks(disk: &Disk, out: &mut impl Write) -> io::Result<()> {
     dump::print(disk, out)?;
-    lookups::print(disk, out)
+    lookups::print(disk, out)?;
+    print_home(disk, out)
+}
+
+/// Prints the length and check of the image that the disk goes home as, or why it has
+/// none.
+fn print_home(disk: &Disk, out: &mut impl Write) -> io::Result<()> {
+    match home::image(disk) {
+        Ok(image) => writeln!(out, "home {} {}", image.len(), dump::check(&image)),
+        Err(number) => writeln!(out, "home refused {number}"),
+    }
 }

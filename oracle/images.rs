@@ -6,6 +6,7 @@ mod damaged;
 mod edges;
 mod geometry;
 mod headers;
+mod homes;
 mod lengths;
 mod libdsk;
 mod lookups;
@@ -49,6 +50,7 @@ pub fn list() -> Vec<Record> {
     geometry::add(&mut list);
     cuts::add(&mut list);
     edges::add(&mut list);
+    homes::add(&mut list);
     many::add(&mut list);
     damaged::add(&mut list);
     libdsk::add(&mut list);

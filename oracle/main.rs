@@ -13,6 +13,8 @@ mod capacities;
 mod dsk;
 mod dump;
 mod errors;
+mod home;
+mod home_edges;
 mod images;
 mod listing;
 mod load;

@@ -1,5 +1,6 @@
 // Replays the list of images in `stdin`: reads each through, loads it into a store, and prints what the
-// store then holds and answers, in the form in which the Rust's own answers stand in `stdout`.
+// store then holds and answers and which image it goes home as, in the form in which the Rust's own
+// answers stand in `stdout`.
 // docs/ORACLE.md has both forms. The store is not cleared between two images.
 ghost use Prim.Native.Nat.{_+_, _*_, _<_, _≤_};
 use fields::SectorId;
@@ -7,6 +8,9 @@ use libc::STDERR_FILENO;
 
 // More records than any list has.
 const RECORDS: u32 = 65536;
+
+// No disk goes home as more bytes: 204 headers and the disk block, and as many data as there can be, padded.
+const HOME: usize = 1153024;
 
 fn show_geometry(table: &[u8], bytes: &[u8]) {
     match store::geometry(table, bytes) {
@@ -98,11 +102,31 @@ fn ask_elsewhere(table: &[u8], bytes: &[u8]) {
     ask(table, bytes, 255, 255, last);
 }
 
+// The image that the disk goes home as, in a buffer that it fits.
+fn show_home_in(table: &[u8], bytes: &[u8], image: &mut [u8; HOME]) {
+    match home::write_image(table, bytes, image) {
+        store::Extent::Refused(why) => {
+            replay::put(b"home ");
+            replay::refused(why);
+        }
+        store::Extent::Of(length) => {
+            replay::put(b"home");
+            replay::show_content(buffer::part(image, 0, length as usize));
+        }
+    }
+}
+
+fn show_home(table: &[u8], bytes: &[u8]) {
+    let mut image = [0; HOME];
+    show_home_in(table, bytes, &mut image);
+}
+
 fn show_store(table: &[u8], bytes: &[u8]) {
     replay::show_tracks(table, bytes);
     show_geometry(table, bytes);
     ask_tracks(table, bytes);
     ask_elsewhere(table, bytes);
+    show_home(table, bytes);
 }
 
 // Reads an image through and loads it.
