@@ -45,6 +45,11 @@ unfoldable pub total : {A : Type 0} → (A → ℕ) → List A → ℕ
 total f [] = 0
 total f (x ∷ xs) = f x + total f xs
 
+-- what holds of every element
+unfoldable pub Each : {A : Type 0} → (A → Type 0) → List A → Type 0
+Each P [] = Unit {0}
+Each P (x ∷ xs) = P x × Each P xs
+
 -- how many bytes a track stores
 abbrev pub trackBytes : Track → ℕ
 trackBytes t = total (λ s. length (s .content)) (t .sectors)

@@ -13,7 +13,7 @@ use Rattle.buffer.proofs.Overs.{over-length, over-set}
 use Rattle.buffer.proofs.Sames.{same-refl}
 use Rattle.fields.specs.Bytes.{byteAt, textAt}
 use Rattle.fields.specs.Refusals.{Result, good}
-use Rattle.fields.specs.Model.{Sector, Track, Disk, trackBytes}
+use Rattle.fields.specs.Model.{Sector, Track, Disk, Each, trackBytes}
 use Rattle.fields.specs.declared.refusal.Refusal.the-variants.{NoImage}
 use Rattle.fields.proofs.Tests.{need-good}
 use Rattle.tracks.specs.Block.{trackText, rowPlace, rowOf, sectorOf, rowAt, sectorsFrom, storedFrom, dataEnd, trackIn, bodyOf, trackOf}
@@ -24,7 +24,7 @@ use Rattle.store.specs.Store.{contents, sectorsAt, sumAt}
 use Rattle.store.proofs.Rounds.{rows-before, byte-back, sum-back, sectors-back, part-after}
 use Rattle.home.specs.Home.{units, padded, trackInfo, blockFor, blocksFor, homeText, cylindersOf, sidesOf, entryFor}
 use Rattle.home.specs.Home.{sizesOver, sizeTable, diskInfo, imageFor, unwritable, homeOf}
-use Rattle.home.proofs.Sizes.{units-up, head-length, block-length, block-size, Each, each-map, Fine}
+use Rattle.home.proofs.Sizes.{units-up, head-length, block-length, block-size, each-map, Fine}
 use Rattle.home.proofs.Sizes.{is-rising, entries-few, all-fine, table-long, disk-block-length, image-length}
 use Rattle.home.proofs.Orders.{Ordered, rising-ordered}
 

@@ -7,11 +7,10 @@ use mathlib.Core.Bool.{Bool, true, false, _&&_, _||_}
 use mathlib.Core.List.{[], _∷_}
 use lib.Dec.{eqb, ltb}
 use borrow.Author.Tests.{ltb-true, ltb-false, lt-ltb, eqb-true, eq-eqb}
-use Rattle.fields.specs.Model.{Track, Disk}
+use Rattle.fields.specs.Model.{Track, Disk, Each}
 use Rattle.fields.proofs.Tests.{never, and-fst, and-snd}
 use Rattle.disk.specs.Change.{earlier}
 use Rattle.home.specs.Home.{entryFor, risingFrom, rising}
-use Rattle.home.proofs.Sizes.{Each}
 
 -- tracks whose entries rise, the first of them from a number on
 unfoldable pub Ordered : ℕ → ℕ → Disk → Type 0

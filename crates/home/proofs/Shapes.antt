@@ -8,7 +8,7 @@ use lib.ListN.{length}
 use lib.Dec.{eqb, leb, ltb}
 use borrow.Author.Tests.{le-leb, leb-true, le-ltb}
 use Rattle.fields.specs.Bytes.{byteAt}
-use Rattle.fields.specs.Model.{Track, Disk, total, trackBytes}
+use Rattle.fields.specs.Model.{Track, Disk, total, Each, trackBytes}
 use Rattle.fields.proofs.Tests.{never, and-fst, and-snd}
 use Rattle.store.specs.Store.{roomOf, sectorsAt, countAt, nextAt, trackSum, tracksAt, bytesAt, wellLaid}
 use Rattle.store.proofs.Rounds.{sizeIn}
@@ -20,7 +20,7 @@ use Rattle.home.specs.Passes.{metNone, metWith, metAt, sidesIf, shapeBy,
 use Rattle.home.specs.declared.measure.Met.{Met}
 use Rattle.home.specs.declared.measure.Shaped.the-variants as shaped
 use Rattle.fields.specs.declared.refusal.Refusal.the-variants.{NoImage}
-use Rattle.home.proofs.Sizes.{Each, each-map, Fit, Fine, block-length, is-rising, entries-few, all-fine, image-length}
+use Rattle.home.proofs.Sizes.{each-map, Fit, Fine, block-length, is-rising, entries-few, all-fine, image-length}
 use Rattle.home.proofs.Orders.{Ordered, rising-ordered, ordered-rising}
 
 -- ---- the tracks of a table as a disk

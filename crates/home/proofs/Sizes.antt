@@ -10,7 +10,7 @@ use lib.Dec.{eqb, ltb}
 use borrow.Author.Tests.{ltb-false, eqb-false, not-false}
 use Rattle.buffer.specs.Over.{over}
 use Rattle.buffer.proofs.Overs.{over-length}
-use Rattle.fields.specs.Model.{Track, Disk, total, trackBytes}
+use Rattle.fields.specs.Model.{Track, Disk, total, Each, trackBytes}
 use Rattle.fields.proofs.Tests.{never}
 use Rattle.store.specs.Store.{contents}
 use Rattle.store.proofs.Rounds.{rows-length, contents-length}
@@ -55,12 +55,7 @@ block-size t h = omega (arith, block-length t h)
 
 -- ---- a disk that can be written
 
--- what holds of every track
-unfoldable pub Each : (Track → Type 0) → Disk → Type 0
-Each P [] = Unit {0}
-Each P (t ∷ ts) = P t × Each P ts
-
--- what holds of it because something else does
+-- what holds of every track because something else does
 pub each-map : (P Q : Track → Type 0) → ((t : Track) → P t → Q t) → (d : Disk) → Each P d → Each Q d
 unfolding Each
 each-map P Q f [] e = tt

@@ -18,7 +18,7 @@ use Rattle.fields.specs.Bytes.{byteAt}
 use Rattle.fields.specs.Refusals.{Result}
 use Rattle.fields.specs.declared.refusal.Refusal.{Refusal}
 use Rattle.fields.specs.declared.refusal.Refusal.the-variants.{ShortBuffer}
-use Rattle.fields.specs.Model.{Track, Disk, trackBytes}
+use Rattle.fields.specs.Model.{Track, Disk, Each, trackBytes}
 use Rattle.tracks.specs.Block.{trackText}
 use Rattle.tracks.proofs.Tracks.{down}
 use Rattle.store.specs.Store.{tableLength, roomOf, tracksFor, contents, sumAt, countAt, nextAt, trackSum, trackAt, tracksAt, bytesAt, diskOf}
@@ -40,7 +40,7 @@ use Rattle.home.specs.Passes.{shapedAs, diskAt, Outbound, infoBy, emptyB
 use Rattle.home.specs.declared.measure.Shape.{Shape}
 use Rattle.home.specs.declared.measure.Shaped.{Shaped}
 use Rattle.home.specs.declared.measure.Shaped.the-variants as shaped
-use Rattle.home.proofs.Sizes.{units-up, padded-length, block-length, block-size, Each, each-map, Fine, blocks-length, entries-few, all-fine}
+use Rattle.home.proofs.Sizes.{units-up, padded-length, block-length, block-size, each-map, Fine, blocks-length, entries-few, all-fine}
 use Rattle.home.proofs.Sizes.{table-long, disk-block-length, image-length}
 use Rattle.home.proofs.Judges.{image-refused, image-shaped}
 

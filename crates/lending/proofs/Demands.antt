@@ -8,7 +8,7 @@ use mathlib.Core.Option.{none}
 use lib.ListN.{length, take, replicate}
 use Rattle.fields.specs.declared.refusal.Refusal.the-variants.{BadController, BadStore}
 use Rattle.fields.specs.Refusals.{good}
-use Rattle.fields.specs.Model.{Disk}
+use Rattle.fields.specs.Model.{Disk, Each}
 use Rattle.fields.proofs.Tests.{never}
 use Rattle.registers.specs.Boxes.{World}
 use Rattle.registers.specs.Ports.{portByte}
@@ -17,7 +17,7 @@ use Rattle.layout.specs.Layout.{regsAt, formed}
 use Rattle.words.specs.Words.{boolWord}
 use Rattle.host.proofs.Same.{image-formed}
 use Rattle.saves.specs.Events.{Question, motorOn?, whichTrack?, diskIn?, Event, poll, read, send, ask, switch, swap, widen}
-use Rattle.saves.specs.Events.{Answer, showed, gave, took, said, stood, denied, Run, run, granted, Each}
+use Rattle.saves.specs.Events.{Answer, showed, gave, took, said, stood, denied, Run, run, granted}
 use Rattle.saves.specs.Stages.{Stage, newStage, answerTo, acted, Unbroken, PutsUnbroken}
 use Rattle.saves.proofs.Unbrokens.{run-unbroken}
 use Rattle.saves.specs.Words.{inDrive, Ready, Save, bytesOf, addressOf, IsSave, savedBy, Sends, Only, ReadsBack, readBytes, replyTo, LosesNone, dataReads, givenIn}

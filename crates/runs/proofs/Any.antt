@@ -8,6 +8,7 @@ use mathlib.Core.Option.{none}
 use lib.ListN.{length, replicate, length-replicate}
 use borrow.Author.Tests.{le-ltb}
 use Rattle.fields.specs.Capacities.{mostHeld}
+use Rattle.fields.specs.Model.{Each}
 use Rattle.fields.specs.declared.refusal.Refusal.the-variants.{BadController, BadStore}
 use Rattle.store.specs.Store.{transferRoom}
 use Rattle.codes.specs.Table.{maskRows, rows, commandBy, commandOf}
@@ -18,7 +19,7 @@ use Rattle.registers.proofs.Numbers.{possible, possible-in}
 use Rattle.registers.proofs.Polls.{polls-empty}
 use Rattle.floppy.specs.Calls.{newFloppy}
 use Rattle.floppy.proofs.Seen.{new-seen}
-use Rattle.saves.specs.Events.{Event, poll, Answer, denied, Run, run, Each}
+use Rattle.saves.specs.Events.{Event, poll, Answer, denied, Run, run}
 use Rattle.saves.specs.Stages.{Stage, newStage, acted, Unbroken, PutsUnbroken}
 use Rattle.saves.specs.Words.{inDrive}
 use Rattle.saves.proofs.Unbrokens.{run-unbroken}

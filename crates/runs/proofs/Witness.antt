@@ -6,7 +6,7 @@ use mathlib.Core.List.{List, [], _∷_}
 use lib.ListN.{length, take, replicate, length-replicate}
 use Rattle.fields.specs.Capacities.{mostTracks, mostSectors, mostData, mostTransfer}
 use Rattle.fields.specs.Refusals.{Result, good}
-use Rattle.fields.specs.Model.{sizeOf, Disk, total, sectorCount, byteCount}
+use Rattle.fields.specs.Model.{sizeOf, Disk, total, Each, sectorCount, byteCount}
 use Rattle.tracks.specs.Rows.{idsFrom}
 use Rattle.buffer.specs.Over.{over}
 use Rattle.store.specs.Store.{tableLength, roomOf, transferRoom, tableOf, dataOf, diskOf}
@@ -15,7 +15,7 @@ use borrow.Author.Tests.{leb-true}
 use Rattle.store.specs.Fresh.{blanks, formatted, freshFrom, fresh}
 use Rattle.registers.specs.Boxes.{Holds, newWorld}
 use Rattle.registers.specs.Ports.{changeDisk}
-use Rattle.saves.specs.Events.{swap, Answer, Run, run, Each}
+use Rattle.saves.specs.Events.{swap, Answer, Run, run}
 use Rattle.saves.specs.Stages.{Stage, acted, Unbroken, PutsUnbroken}
 use Rattle.runs.specs.Hosts.{Host, called, seen, stageOf, newHost, storeOf, Sound}
 use Rattle.runs.proofs.Any.{calls-sound, new-sound, new-run}

@@ -3,11 +3,11 @@ use mathlib.Core.Path.{_≡_, refl, sym, subst, _∙_}
 use mathlib.Core.List.{List, [], _∷_}
 use mathlib.Core.Option.{Option, none, some}
 use Rattle.fields.specs.Refusals.{Result, refused, good, after}
-use Rattle.fields.specs.Model.{Disk}
+use Rattle.fields.specs.Model.{Disk, Each}
 use Rattle.registers.specs.Boxes.{Slot, Inside, Taking, Add, Hold, Change, Clear, MoveTo, Turn, Start, Finish, Sent, taken, changed, allChanged, putIn}
 use Rattle.registers.specs.Ports.{afterStatus, afterRead, setMotor, changeDisk}
 use Rattle.sending.specs.Machine.{sent, done, writePort}
-use Rattle.saves.specs.Events.{Event, poll, read, send, ask, switch, swap, widen, run, Each}
+use Rattle.saves.specs.Events.{Event, poll, read, send, ask, switch, swap, widen, run}
 use Rattle.saves.specs.Stages.{Stage, sentOn, acted, Unbroken, PutsUnbroken}
 use Rattle.saves.specs.Words.{inDrive}
 

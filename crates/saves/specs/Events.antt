@@ -62,8 +62,3 @@ granted (took ∷ l) = granted l
 granted (said f ∷ l) = granted l
 granted (stood c ∷ l) = granted l
 granted (denied why ∷ l) = false
-
--- of every element
-unfoldable pub Each : {A : Type 0} → (A → Type 0) → List A → Type 0
-Each P [] = Unit {0}
-Each P (x ∷ xs) = P x × Each P xs
