@@ -1,16 +1,20 @@
 -- A disk as its user sees it. Nothing here speaks of an image or of a place in a store.
-use Prim.Native.Nat.{ℕ, _+_, _*_, _/_, _%_, _^_}
+use Prim.Native.Nat.{ℕ, _+_, _/_, _%_}
 use mathlib.Core.Bool.{cond}
 use mathlib.Core.List.{List, [], _∷_}
-use lib.ListN.{length}
+use lib.ListN.{length, getD}
 use lib.Dec.{eqb, ltb, leb}
 use Rattle.fields.specs.declared.id.SectorId.{SectorId}
 use Rattle.fields.specs.declared.id.St1.{St1}
 use Rattle.fields.specs.declared.id.St2.{St2}
 
--- a sector's size by n: 128 shifted left by n & 3
+-- the four sizes, as they are printed
+abbrev pub printedSizes : List ℕ
+printedSizes = 128 ∷ 256 ∷ 512 ∷ 1024 ∷ []
+
+-- a sector's size by n: the printed one that n & 3 chooses, from 0 on
 unfoldable pub sizeOf : ℕ → ℕ
-sizeOf n = 128 * 2 ^ (n % 4)
+sizeOf n = getD printedSizes (n % 4) 0
 
 -- the whole sizes stored: stored length over size by n where that leaves no remainder, else 0 (01, "Listing program")
 unfoldable pub wholeSizes : ℕ → ℕ → ℕ

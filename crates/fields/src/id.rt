@@ -9,11 +9,16 @@ pub struct SectorId {
     pub n: u8,
 }
 
-// The size that an n names: 128 shifted left by its two low bits.
+// The size that an n names: the printed one that n & 3 chooses.
 pub fn size_of(n: u8) -> usize
     ensures { λ r. ⌜ r ≡ sizeOf n ⌝ }
 {
-    128usize << (n % 4)
+    match n % 4 {
+        0 => 128,
+        1 => 256,
+        2 => 512,
+        _ => 1024,
+    }
 }
 
 impl SectorId {
