@@ -9,34 +9,30 @@ use lib.ListN.{length, take}
 use lib.Dec.{ltb}
 use borrow.Author.Tests.{ltb-true}
 use Rattle.fields.specs.Bytes.{byteAt}
-use Rattle.fields.specs.Refusals.{good}
-use Rattle.fields.specs.Model.{sizeOf, total}
+use Rattle.fields.specs.Refusals.{Result, refused, good}
+use Rattle.fields.proofs.Sizes.{size-2}
 use Rattle.fields.proofs.Tests.{never}
 use Rattle.tracks.specs.declared.track.Kind.the-variants.{Extended}
 use Rattle.tracks.specs.Rows.{rowsFor, idsFrom}
 use Rattle.image.specs.Dsk.{dskOf}
-use Rattle.store.specs.Find.{findFrom}
-use Rattle.store.specs.Search.{sectorAt, runFrom, readAt}
 use Rattle.store.specs.Store.{contents}
 use Rattle.store.specs.Fresh.{blanks, formatted, freshFrom, fresh}
 use Rattle.disk.specs.Change.{change, saved}
 use Rattle.home.specs.Home.{units, padded, trackInfo, blockFor, cylindersOf, someTrack, sidesOf, imageFor}
 use Rattle.home.specs.Home.{risingFrom, rising, sideOver1, entriesOver204, sectorsOver29, trackOver65280, unwritable}
 use Rattle.codes.specs.Table.{maskRows, rows, commandBy, commandOf}
-use Rattle.registers.specs.Boxes.{newWorld, named, taken, changed, allChanged, putIn, responded}
-use Rattle.registers.specs.Ports.{changeDisk}
+use Rattle.registers.specs.Boxes.{World}
 use Rattle.registers.specs.View.{impossible, impossibleIn}
 use Rattle.registers.specs.Calls.{diskSet}
-use Rattle.commands.specs.Commands.{seekIf, servedAs, readData, startAt, writeData, writeReply, saveAt, written, obeyed}
-use Rattle.sending.specs.Machine.{commandIf, commandByte, dataIf, dataByte, byteFor, sent, done, writePort}
+use Rattle.sending.specs.Machine.{writePort}
 use Rattle.floppy.specs.Calls.{newFloppy}
 use Rattle.layout.specs.Layout.{numbersFor, floppyBytes}
 use Rattle.host.specs.Calls.{answered, writeImageOn}
 use Rattle.host.proofs.Same.{image-formed}
-use Rattle.saves.specs.Events.{Event, Answer, Run, run}
-use Rattle.saves.specs.Stages.{Stage, acted}
-use Rattle.saves.specs.Words.{Ready, bytesOf, savedAt, addressOf, savedBy, readBytes, sentIn}
-use Rattle.saves.proofs.Witness.{start, example, again, other, sendAll, sent-all, E, A, O, B, L, Tried, example-is, again-is, other-is, back-is, same, differ, reads, reads-lose-none, Told, few, told-is}
+use Rattle.saves.specs.Events.{Event, Answer, Run, run, granted}
+use Rattle.saves.specs.Stages.{Stage, sentOn, acted}
+use Rattle.saves.specs.Words.{Ready, bytesOf, savedAt, addressOf, savedBy, readBytes}
+use Rattle.saves.proofs.Witness.{start, example, again, other, sendAll, sent-all, E, A, O, B, L, grants, example-is, again-is, other-is, back-is, same, differ, reads, reads-lose-none, Told, few, told-is}
 use Rattle.runs.specs.Hosts.{Host, called, seen, stageOf}
 use Rattle.runs.proofs.Any.{calls-run}
 use Rattle.runs.proofs.Witness.{host, host-sound, host-stage, host-ready}
@@ -104,15 +100,28 @@ at-end es l g a = record {
 abbrev words : List Answer → Bool
 words l = allPass (map wordOf l)
 
-posts : (es : List Event) (bytes : List ℕ) (l : Lending) (g : Stage) → At l g → sentIn es ≡ some bytes → words (run acted es g .answers) ≡ true → Posts es bytes (run exported es l .answers)
-posts es bytes l g a e ok = record {
-  sends = e;
-  none-refused = ap allPass (machine-words es l (a .host-there) (a .stands-there)) ∙ ap (λ (y : Stage). words (run acted es y .answers)) (sym (a .is)) ∙ ok;
-}
+-- bytes that are sent and granted answer 0 each
+sent-word : (x : Result World) (g : Stage) (l : List Answer) → granted (sentOn g x .answer ∷ l) ≡ true → (granted l ≡ true → words l ≡ true)
+    → words (sentOn g x .answer ∷ l) ≡ true
+unfolding granted allPass wordOf
+sent-word (refused why) g l ok rest = never (cc)
+sent-word (good w) g l ok rest = rest ok
 
-tried : Tried words
-unfolding allPass wordOf run acted sendAll bytesOf example again other changeDisk newWorld named taken changed allChanged putIn responded maskRows rows commandBy commandOf seekIf startAt writeData writeReply saveAt written obeyed commandIf commandByte dataIf dataByte byteFor sent done writePort fresh freshFrom formatted idsFrom blanks sizeOf sectorAt findFrom change saved total readBytes readAt runFrom contents servedAs readData
-tried = record { first = refl; second = refl; alone = refl; behind = refl; other = refl; before = refl; begun = refl; last = refl }
+sent-words : (l : List ℕ) (g : Stage) → granted (run acted (sendAll l) g .answers) ≡ true → words (run acted (sendAll l) g .answers) ≡ true
+unfolding run acted sendAll allPass
+sent-words [] g ok = refl
+sent-words (b ∷ l) g ok =
+    let x : Result World = writePort (g .setting) (g .world) b in
+    sent-word x g (run acted (sendAll l) (sentOn g x .then) .answers) ok (sent-words l (sentOn g x .then))
+
+posts : (bytes : List ℕ) (l : Lending) (g : Stage) → At l g → granted (run acted (sendAll bytes) g .answers) ≡ true
+    → Posts (sendAll bytes) bytes (run exported (sendAll bytes) l .answers)
+posts bytes l g a ok = record {
+  sends = sent-all bytes;
+  none-refused =
+      ap allPass (machine-words (sendAll bytes) l (a .host-there) (a .stands-there))
+      ∙ ap (λ (y : Stage). words (run acted (sendAll bytes) y .answers)) (sym (a .is)) ∙ sent-words bytes g ok;
+}
 
 at-e : At (run exported E lentBytes .end) (run acted E start .end)
 at-e = at-end E lentBytes start at-start
@@ -123,12 +132,12 @@ at-o = at-end O lentBytes start at-start
 at-b : At (run exported B (run exported E lentBytes .end) .end) (run acted B (run acted E start .end) .end)
 at-b = at-end B (run exported E lentBytes .end) (run acted E start .end) at-e
 
-last-sent : sentIn L ≡ some (0xFF ∷ [])
-unfolding sentIn
-last-sent = refl
-
 posts-first : Posts E (bytesOf example) (run exported E lentBytes .answers)
-posts-first = posts E (bytesOf example) lentBytes start at-start (sent-all (bytesOf example)) (tried .first)
+posts-first = posts (bytesOf example) lentBytes start at-start (grants .first)
+
+posts-last : Posts L (0xFF ∷ []) (run exported L (run exported B (run exported E lentBytes .end) .end) .answers)
+unfolding sendAll
+posts-last = posts (0xFF ∷ []) (run exported B (run exported E lentBytes .end) .end) (run acted B (run acted E start .end) .end) at-b (grants .last)
 
 -- ---- so each theorem has something to say
 
@@ -140,16 +149,16 @@ lent-saves = save-bytes example fresh lentBytes E lent-formed lent-ready example
 pub lent-second : storeIn (run exported A (run exported E lentBytes .end) .end) ≡ storeIn (run exported A lentBytes .end)
 lent-second =
     second-bytes example again fresh lentBytes E A A lent-formed lent-ready example-is again-is same posts-first
-    (posts A (bytesOf again) (run exported E lentBytes .end) (run acted E start .end) at-e (sent-all (bytesOf again)) (tried .second))
-    (posts A (bytesOf again) lentBytes start at-start (sent-all (bytesOf again)) (tried .alone))
+    (posts (bytesOf again) (run exported E lentBytes .end) (run acted E start .end) at-e (grants .second))
+    (posts (bytesOf again) lentBytes start at-start (grants .alone))
 
 -- sectors 3 and 4 come in either order
 pub lent-order : storeIn (run exported O (run exported E lentBytes .end) .end) ≡ storeIn (run exported E (run exported O lentBytes .end) .end)
 lent-order =
     order-bytes example other fresh lentBytes E O O E lent-formed lent-ready example-is other-is differ posts-first
-    (posts O (bytesOf other) (run exported E lentBytes .end) (run acted E start .end) at-e (sent-all (bytesOf other)) (tried .behind))
-    (posts O (bytesOf other) lentBytes start at-start (sent-all (bytesOf other)) (tried .other))
-    (posts E (bytesOf example) (run exported O lentBytes .end) (run acted O start .end) at-o (sent-all (bytesOf example)) (tried .before))
+    (posts (bytesOf other) (run exported E lentBytes .end) (run acted E start .end) at-e (grants .behind))
+    (posts (bytesOf other) lentBytes start at-start (grants .other))
+    (posts (bytesOf example) (run exported O lentBytes .end) (run acted O start .end) at-o (grants .before))
 
 -- and so many data-port reads give so many of the bytes and the reply
 pub lent-back : (n : ℕ) → n ≤ 519
@@ -157,15 +166,14 @@ pub lent-back : (n : ℕ) → n ≤ 519
 lent-back n h =
     told-is n _
     (back-bytes example fresh 0x46 0 3 0x2A 0xFF lentBytes E B (reads n) lent-formed lent-ready example-is posts-first back-is
-    (posts B (readBytes example 0x46 0 3 0x2A) (run exported E lentBytes .end) (run acted E start .end) at-e (sent-all (readBytes example 0x46 0 3 0x2A)) (tried .begun))
-    (posts L (0xFF ∷ []) (run exported B (run exported E lentBytes .end) .end) (run acted B (run acted E start .end) .end) at-b last-sent (tried .last))
-    (reads-lose-none n _) (few n h))
+    (posts (readBytes example 0x46 0 3 0x2A) (run exported E lentBytes .end) (run acted E start .end) at-e (grants .begun))
+    posts-last (reads-lose-none n _) (few n h))
 
 -- ---- and the disk with the save on it goes home
 
 home-can : unwritable (savedBy example fresh) ≡ false
-unfolding unwritable rising risingFrom sideOver1 entriesOver204 cylindersOf sidesOf sectorsOver29 trackOver65280 someTrack blockFor trackInfo padded units rowsFor contents savedAt addressOf example fresh freshFrom formatted idsFrom blanks sizeOf change saved
-home-can = refl
+unfolding unwritable rising risingFrom sideOver1 entriesOver204 cylindersOf sidesOf sectorsOver29 trackOver65280 someTrack blockFor trackInfo padded units rowsFor contents savedAt addressOf example fresh freshFrom formatted idsFrom blanks change saved
+home-can = rw size-2
 
 -- it is read from what is written
 pub lent-home : (s s′ : List ℕ) (w : ℕ) → length (imageFor (savedBy example fresh)) ≤ length s

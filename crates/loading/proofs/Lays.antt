@@ -12,6 +12,7 @@ use Rattle.fields.specs.Refusals.{good}
 use Rattle.fields.specs.Bytes.{byteAt}
 use Rattle.fields.specs.Model.{sizeOf, Sector, Track, Disk, total, trackBytes, sectorCount, byteCount}
 use Rattle.fields.specs.declared.id.SectorId.{SectorId}
+use Rattle.fields.proofs.Sizes.{size-2}
 use Rattle.tracks.specs.Block.{idAt, rowOf, sectorOf, sectorsFrom, storedFrom, trackIn, trackOf, trackHead}
 use Rattle.tracks.specs.declared.track.Kind.{Kind}
 use Rattle.tracks.specs.declared.track.Head.{Head}
@@ -231,10 +232,6 @@ module _ (h : Head) (ids : List ℕ) where
       ∙ sym (blanks-bytes (h .size) (h .filler) (idsAt ids 0 (h .sectors)) ∙ ap (λ (n : ℕ). replicate (n * sizeOf (h .size)) (h .filler)) (ids-length ids 0 (h .sectors)))
 
 -- ---- the fresh format
-
-pub size-2 : sizeOf 2 ≡ 512
-unfolding sizeOf
-size-2 = refl
 
 -- one of its tracks: nine sectors of 512 bytes
 fresh-nine : (c : ℕ) → length (freshTrack c .sectors) ≡ 9

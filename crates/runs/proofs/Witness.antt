@@ -1,18 +1,18 @@
 -- The same saves and the same Read Data by calls, from a new controller into which a fresh disk is put; none of them is refused.
 use mathlib.Core.Path.{_≡_, refl, sym, ap, subst, _∙_}
 use Prim.Native.Nat.{ℕ, _≤_, min}
+use native.Mathlib.Omega.{arith}
 use mathlib.Core.Bool.{true}
 use mathlib.Core.List.{List, [], _∷_}
 use lib.ListN.{length, take, replicate, length-replicate}
 use Rattle.fields.specs.Capacities.{mostTracks, mostSectors, mostData, mostTransfer}
 use Rattle.fields.specs.Refusals.{Result, good}
-use Rattle.fields.specs.Model.{sizeOf, Disk, total, Each, sectorCount, byteCount}
-use Rattle.tracks.specs.Rows.{idsFrom}
+use Rattle.fields.specs.Model.{Disk, Each, sectorCount, byteCount}
 use Rattle.buffer.specs.Over.{over}
 use Rattle.store.specs.Store.{tableLength, roomOf, transferRoom, tableOf, dataOf, diskOf}
 use Rattle.store.proofs.Rounds.{laid-back}
-use borrow.Author.Tests.{leb-true}
-use Rattle.store.specs.Fresh.{blanks, formatted, freshFrom, fresh}
+use Rattle.loading.proofs.Lays.{fresh-tracks, fresh-sectors, fresh-bytes}
+use Rattle.store.specs.Fresh.{fresh}
 use Rattle.registers.specs.Boxes.{Holds, newWorld}
 use Rattle.registers.specs.Ports.{changeDisk}
 use Rattle.saves.specs.Events.{swap, Answer, Run, run}
@@ -26,8 +26,8 @@ use Rattle.saves.proofs.Witness.{start, example, again, other, E, A, O, B, L, g
 
 -- a fresh disk is what a store holds in which it is laid
 fresh-long : (length fresh ≤ mostTracks) × ((sectorCount fresh ≤ mostSectors) × (byteCount fresh ≤ mostData))
-unfolding fresh freshFrom formatted idsFrom blanks sizeOf total
-fresh-long = (leb-true _ _ refl, (leb-true _ _ refl, leb-true _ _ refl))
+unfolding fresh
+fresh-long = (omega (arith, fresh-tracks 0 40), (omega (arith, fresh-sectors 0 40), omega (arith, fresh-bytes 0 40)))
 
 unfoldable pub freshTable : List ℕ
 freshTable = over (replicate tableLength 0) 0 (tableOf fresh)

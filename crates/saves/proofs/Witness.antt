@@ -1,6 +1,6 @@
 -- The theorems used: saves to a fresh disk and a Read Data, none of them refused. The same bytes are sent in the sessions `example-save-..` of
 -- `crates/ports`.
-use mathlib.Core.Path.{_≡_, refl, ap, _∙_}
+use mathlib.Core.Path.{_≡_, refl, sym, ap, _∙_}
 use Prim.Native.Nat.{ℕ, zero, suc, _+_, _≤_}
 use native.Mathlib.Omega.{arith}
 use mathlib.Core.Bool.{Bool, true}
@@ -11,8 +11,10 @@ use Rattle.fields.specs.Bytes.{withBit}
 use Rattle.fields.specs.Capacities.{mostData, mostTransfer}
 use Rattle.fields.specs.Refusals.{good}
 use Rattle.fields.specs.Model.{sizeOf, total}
+use Rattle.fields.specs.declared.id.SectorId.{SectorId}
+use Rattle.fields.proofs.Sizes.{size-2}
 use Rattle.tracks.specs.Rows.{idsFrom}
-use Rattle.store.specs.Find.{findFrom}
+use Rattle.store.specs.Find.{found, findFrom}
 use Rattle.store.specs.Search.{sectorAt, runFrom, readAt}
 use Rattle.store.specs.Store.{contents}
 use Rattle.store.specs.Fresh.{blank, blanks, formatted, freshFrom, fresh}
@@ -32,14 +34,17 @@ use Rattle.saves.proofs.ReadBack.{read-back}
 abbrev pub start : Stage
 start = record { setting = record { room = mostData; transfer = mostTransfer }; world = changeDisk (Holds (good fresh)) newWorld }
 
--- a save to cylinder 7: 512 bytes to a sector
+-- the ID of a sector of cylinder 7, and a save of 512 bytes to it
+abbrev numbered : ℕ → SectorId
+numbered r = record { c = 7; h = 0; r = r; n = 2 }
+
 abbrev with : ℕ → ℕ → Save
 with r b = record {
   seekC1 = 0;
   cylinder = 7;
   code = 0x45;
   c1 = 0;
-  id = record { c = 7; h = 0; r = r; n = 2 };
+  id = numbered r;
   eot = r;
   gap = 0x2A;
   dtl = 0xFF;
@@ -82,36 +87,48 @@ B = sendAll (readBytes example 0x46 0 3 0x2A)
 abbrev pub L : List Event
 L = send 0xFF ∷ []
 
--- a test of the answers to the save, to another to the same sector behind it and alone, to another to the next sector behind it and before it, and to
--- the Read Data
-pub record Tried (test : List Answer → Bool) : Type 0 where
-  pub first : test (run acted E start .answers) ≡ true
-  pub second : test (run acted A (run acted E start .end) .answers) ≡ true
-  pub alone : test (run acted A start .answers) ≡ true
-  pub behind : test (run acted O (run acted E start .end) .answers) ≡ true
-  pub other : test (run acted O start .answers) ≡ true
-  pub before : test (run acted E (run acted O start .end) .answers) ≡ true
-  pub begun : test (run acted B (run acted E start .end) .answers) ≡ true
-  pub last : test (run acted L (run acted B (run acted E start .end) .end) .answers) ≡ true
+-- what is granted: the save, another to the same sector behind it and alone, another to the next sector behind it and before it, and the Read Data
+pub record Grants : Type 0 where
+  pub first : granted (run acted E start .answers) ≡ true
+  pub second : granted (run acted A (run acted E start .end) .answers) ≡ true
+  pub alone : granted (run acted A start .answers) ≡ true
+  pub behind : granted (run acted O (run acted E start .end) .answers) ≡ true
+  pub other : granted (run acted O start .answers) ≡ true
+  pub before : granted (run acted E (run acted O start .end) .answers) ≡ true
+  pub begun : granted (run acted B (run acted E start .end) .answers) ≡ true
+  pub last : granted (run acted L (run acted B (run acted E start .end) .end) .answers) ≡ true
 
 -- nothing is refused
-pub grants : Tried granted
+pub grants : Grants
 unfolding granted run acted sendAll bytesOf example again other changeDisk newWorld named taken changed allChanged putIn responded maskRows rows commandBy commandOf seekIf startAt writeData writeReply saveAt written obeyed commandIf commandByte dataIf dataByte byteFor sent done writePort fresh freshFrom formatted idsFrom blanks sizeOf sectorAt findFrom change saved total readBytes readAt runFrom contents servedAs readData
 grants = record { first = refl; second = refl; alone = refl; behind = refl; other = refl; before = refl; begun = refl; last = refl }
 
 -- ---- they are saves, and the Read Data reads the first one back
 
+-- such a save, where its sector is there
+with-is : (r b place : ℕ) → sectorAt fresh 0 7 (numbered r) ≡ found place (blank 2 0xE5 (numbered r)) → IsSave (with r b) fresh
+unfolding commandOf commandBy rows maskRows
+with-is r b place e = record {
+  writes = refl;
+  seeks-drive-0 = refl;
+  writes-drive-0 = refl;
+  as-many = length-replicate {A = ℕ} 512 b ∙ sym size-2;
+  place = place;
+  sector = blank 2 0xE5 (numbered r);
+  there = e;
+}
+
 pub example-is : IsSave example fresh
-unfolding example fresh freshFrom formatted idsFrom blanks sizeOf sectorAt findFrom commandOf commandBy rows maskRows
-example-is = record { writes = refl; seeks-drive-0 = refl; writes-drive-0 = refl; as-many = refl; place = 2; sector = blank 2 0xE5 (record { c = 7; h = 0; r = 3; n = 2 }); there = refl }
+unfolding example fresh freshFrom formatted idsFrom blanks sectorAt findFrom
+example-is = with-is 3 0xAA 2 refl
 
 pub again-is : IsSave again fresh
-unfolding again fresh freshFrom formatted idsFrom blanks sizeOf sectorAt findFrom commandOf commandBy rows maskRows
-again-is = record { writes = refl; seeks-drive-0 = refl; writes-drive-0 = refl; as-many = refl; place = 2; sector = blank 2 0xE5 (record { c = 7; h = 0; r = 3; n = 2 }); there = refl }
+unfolding again fresh freshFrom formatted idsFrom blanks sectorAt findFrom
+again-is = with-is 3 0x55 2 refl
 
 pub other-is : IsSave other fresh
-unfolding other fresh freshFrom formatted idsFrom blanks sizeOf sectorAt findFrom commandOf commandBy rows maskRows
-other-is = record { writes = refl; seeks-drive-0 = refl; writes-drive-0 = refl; as-many = refl; place = 3; sector = blank 2 0xE5 (record { c = 7; h = 0; r = 4; n = 2 }); there = refl }
+unfolding other fresh freshFrom formatted idsFrom blanks sectorAt findFrom
+other-is = with-is 4 0x55 3 refl
 
 pub back-is : ReadsBack example 0x46 0 3
 unfolding example commandOf commandBy rows maskRows
@@ -160,8 +177,8 @@ ends = record { sends = refl; grants = grants .last }
 
 -- the save changes sector 3 of cylinder 7 and nothing else
 pub example-touches : Ready (run acted E start .end .world) (savedBy example fresh)
-    × Only (addressOf example) (example .content) (blank 2 0xE5 (record { c = 7; h = 0; r = 3; n = 2 })) fresh (savedBy example fresh)
-unfolding example-is
+    × Only (addressOf example) (example .content) (blank 2 0xE5 (numbered 3)) fresh (savedBy example fresh)
+unfolding example-is with-is
 example-touches = save-touches example fresh start E start-ready example-is (sending (bytesOf example) _ (grants .first))
 
 -- of two to sector 3 the second alone counts
@@ -185,7 +202,7 @@ unfolding example
 few n h = omega (arith, reads-count n, length-replicate {A = ℕ} 512 0xAA)
 
 pub told-is : (n : ℕ) (l : List ℕ) → l ≡ take (dataReads (reads n)) (example .content ++ replyTo example 0 3 (example-is .sector)) → l ≡ take n Told
-unfolding example example-is replyTo withBit
+unfolding example example-is with-is replyTo withBit
 told-is n l e = e ∙ ap (λ (m : ℕ). take m Told) (reads-count n)
 
 -- so many reads give so many of them

@@ -3,8 +3,8 @@ use mathlib.Core.Path.{_≡_, refl}
 use mathlib.Core.Bool.{true}
 use mathlib.Core.List.{[], _∷_}
 use mathlib.Core.Option.{some}
-use Rattle.fields.specs.Model.{sizeOf}
 use Rattle.fields.specs.Refusals.{good}
+use Rattle.fields.proofs.Sizes.{size-2}
 use Rattle.codes.specs.Table.{commandOf, commandBy, rows, maskRows}
 use Rattle.registers.specs.Boxes.{Empty, World, newWorld}
 use Rattle.registers.specs.declared.regs.Seek.the-variants.{Done}
@@ -60,5 +60,5 @@ unfolding newWorld paperOf boxesOf boxesFor worldIn framed placesOf behind highA
 new-back = refl
 
 pub busy-back : worldIn (sheetOf busy) ≡ good busy
-unfolding busy paperOf boxesOf boxesFor worldIn framed placesOf behind highAt sheetAt boxAt inRange worldFrom wrongBoxes commandOf commandBy rows maskRows sizeOf
-busy-back = refl
+unfolding busy paperOf boxesOf boxesFor worldIn framed placesOf behind highAt sheetAt boxAt inRange worldFrom wrongBoxes commandOf commandBy rows maskRows
+busy-back = rw size-2

@@ -11,7 +11,7 @@ use lib.Dec.{eqb, leb}
 use borrow.Author.Tests.{eq-eqb, eqb-true, ne-eqb, lt-leb, leb-false, not-false}
 use Rattle.fields.specs.Capacities.{mostTransfer, mostHeld}
 use Rattle.fields.specs.Model.{sizeOf}
-use Rattle.fields.proofs.Sizes.{size-most}
+use Rattle.fields.proofs.Sizes.{size-most, size-3}
 use Rattle.fields.proofs.Tests.{never}
 use Rattle.codes.specs.Table.{commandOf, commandBy, rows, maskRows}
 use Rattle.store.proofs.Checks.{transfer-in}
@@ -165,8 +165,8 @@ filled u h = record {
 }
 
 filled-right : (u h : List ℕ) → length h < 1024 → wrongBoxes (filled u h) ≡ false
-unfolding filled wrongBoxes commandOf commandBy rows maskRows sizeOf
-filled-right u h e = rw (lt-leb 1024 (length h) e)
+unfolding filled wrongBoxes commandOf commandBy rows maskRows
+filled-right u h e = rw (size-3, lt-leb 1024 (length h) e)
 
 filled-long : (u h : List ℕ) → length (sheetOf (filled u h)) ≡ 51 + length u + length h
 unfolding filled

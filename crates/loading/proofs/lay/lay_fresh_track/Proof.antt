@@ -1,11 +1,12 @@
 use mathlib.Core.Path.{refl, ap, _∙_}
 use Rattle.buffer.specs.Over.{over}
 use Rattle.fields.specs.Model.{Track}
+use Rattle.fields.proofs.Sizes.{size-2}
 use Rattle.tracks.proofs.Numbering.{ids-numbered}
 use Rattle.store.specs.Store.{contents}
 use Rattle.loading.specs.Laying.{trackFor}
 use native.Mathlib.Omega.{arith}
-use Rattle.loading.proofs.Lays.{size-2, fresh-laid}
+use Rattle.loading.proofs.Lays.{fresh-laid}
 use borrow.Author.Needs.{needs}
 use Rattle.loading.proofs.lay.lay_fresh_track.Statement.{statement}
 use Rattle.loading.proofs.lay.lay_fresh_track.Tie as tie
