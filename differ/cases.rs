@@ -3,7 +3,7 @@
 
 use crate::chance::Chance;
 use crate::watch::{Checked, Watch, tell};
-use crate::{homes, host, loads, sessions};
+use crate::{homes, host, loads, sessions, sizes};
 
 /// How many kinds there are of loads, and of sessions.
 const KINDS: u64 = 128;
@@ -42,7 +42,7 @@ impl Plan {
         Some(plan)
     }
 
-    /// Runs the disks at the edges, and cases until there are as many images and calls
+    /// Runs every n, the disks at the edges, and cases until there are as many images and calls
     /// as planned, or to the first difference. Answers whether there was none.
     pub fn run(&self) -> bool {
         let Plan {
@@ -58,7 +58,8 @@ impl Plan {
             return false;
         }
         let mut chance = Chance::new(*seed);
-        let good = homes::run(&mut watch)
+        let good = sizes::run(&mut watch)
+            && homes::run(&mut watch)
             && self.run_loads(&mut chance, &mut watch)
             && self.run_sessions(&mut chance, &mut watch);
         println!("{watch}");

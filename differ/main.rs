@@ -44,6 +44,7 @@ mod pair;
 mod rules;
 mod sessions;
 mod sheets;
+mod sizes;
 mod store;
 mod view;
 mod watch;
