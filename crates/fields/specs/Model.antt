@@ -8,11 +8,11 @@ use Rattle.fields.specs.declared.id.SectorId.{SectorId}
 use Rattle.fields.specs.declared.id.St1.{St1}
 use Rattle.fields.specs.declared.id.St2.{St2}
 
--- the four sizes, as they are printed
+-- the four sizes, as they are printed (2026-04)
 abbrev pub printedSizes : List ℕ
 printedSizes = 128 ∷ 256 ∷ 512 ∷ 1024 ∷ []
 
--- a sector's size by n: the printed one that n & 3 chooses, from 0 on
+-- a sector's size by n: the printed one at place n & 3, counted from 0
 unfoldable pub sizeOf : ℕ → ℕ
 sizeOf n = getD printedSizes (n % 4) 0
 

@@ -1,5 +1,5 @@
 -- The same saves and the same Read Data by calls, from a new controller into which a fresh disk is put; none of them is refused.
-use mathlib.Core.Path.{_≡_, refl, sym, ap, subst, _∙_}
+use mathlib.Core.Path.{_≡_, sym, ap, subst, _∙_}
 use Prim.Native.Nat.{ℕ, _≤_, min}
 use native.Mathlib.Omega.{arith}
 use mathlib.Core.Bool.{true}
@@ -11,8 +11,8 @@ use Rattle.fields.specs.Model.{Disk, Each, sectorCount, byteCount}
 use Rattle.buffer.specs.Over.{over}
 use Rattle.store.specs.Store.{tableLength, roomOf, transferRoom, tableOf, dataOf, diskOf}
 use Rattle.store.proofs.Rounds.{laid-back}
-use Rattle.loading.proofs.Lays.{fresh-tracks, fresh-sectors, fresh-bytes}
 use Rattle.store.specs.Fresh.{fresh}
+use Rattle.loading.proofs.Lays.{fresh-tracks, fresh-sectors, fresh-bytes}
 use Rattle.registers.specs.Boxes.{Holds, newWorld}
 use Rattle.registers.specs.Ports.{changeDisk}
 use Rattle.saves.specs.Events.{swap, Answer, Run, run}
