@@ -42,8 +42,8 @@ impl Plan {
         Some(plan)
     }
 
-    /// Runs every n, the disks at the edges, and cases until there are as many images and calls
-    /// as planned, or to the first difference. Answers whether there was none.
+    /// Runs every n, the disks at the edges, and cases until there are as many images
+    /// and calls as planned, or to the first difference. Answers whether there was none.
     pub fn run(&self) -> bool {
         let Plan {
             seed,

@@ -1,5 +1,5 @@
-//! Every n from 0 to 255, which come before the cases of a run: a normal image with a
-//! sector of it is loaded; then the track that is there and one that is not are
+//! Every n from 0 to 255, which come before the cases of a run: a normal image with
+//! sectors of it is loaded; then the track that is there and one that is not are
 //! formatted with it, and a sector of each is written and read.
 
 use crate::buffer::Buffer;
@@ -30,18 +30,20 @@ fn compare(n: u8, watch: &mut Watch) -> Checked {
     let disk = loaded(n, &mut chance, watch)?;
     let transfer = Buffer::new(ROOM, 9, &mut chance);
     let mut pair = Pair::new(vec![disk], transfer, &mut chance, watch)?;
-    pair.put(Some(0), 1)?;
-    let done = play(0, n, &mut pair)
+    let done = pair
+        .put(Some(0), 1)
+        .and_then(|()| play(0, n, &mut pair))
         .and_then(|()| play(1, n, &mut pair))
         .and_then(|()| pair.finish(&mut chance));
     done.map_err(|difference| difference.with(pair.states()))
 }
 
-/// A normal image with a sector of this n, loaded on both sides into as much room as it
-/// takes. All of the room for what follows is lent then.
+/// A normal image with three sectors of this n, loaded on both sides into as much room
+/// as they take. All of the room for what follows is lent then.
 fn loaded(n: u8, chance: &mut Chance, watch: &mut Watch) -> Checked<Kept> {
-    let track = Track::new(0, 0, vec![Sector::sized([0, 0, 1, n])]);
-    let image = Plan::normal(1, 1, 0x500).track(FIRST, track).image();
+    let sectors = [1, 2, 3].map(|r| Sector::sized([0, 0, r, n])).to_vec();
+    let plan = Plan::normal(1, 1, 0xd00).track(FIRST, Track::new(0, 0, sectors));
+    let image = plan.image();
     let rust = rust_load(&image)?;
     let mut store = Store::new(ROOM, 9, chance);
     let bytes = rust.as_ref().map_or(0, |disk| Totals::of(disk).bytes);

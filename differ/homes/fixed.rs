@@ -1,5 +1,5 @@
-//! The disks at the edges of what an extended image holds, which come first in every
-//! run.
+//! The disks at the edges of what an extended image holds, which come before the cases
+//! of a run.
 
 use super::compare;
 use crate::capacities::Totals;

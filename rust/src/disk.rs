@@ -17,7 +17,7 @@ pub struct SectorId {
     pub h: u8,
     /// The sector's number.
     pub r: u8,
-    /// The size: 128 bytes shifted left by the lowest two bits.
+    /// The size: 128, 256, 512 or 1,024 bytes, by the lowest two bits.
     pub n: u8,
 }
 

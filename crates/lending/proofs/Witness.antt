@@ -99,7 +99,7 @@ at-end es l g a = record {
 abbrev words : List Answer → Bool
 words l = allPass (map wordOf l)
 
--- bytes that are sent and granted answer 0 each
+-- where bytes that are sent are granted, no word is a refusal: the first of them, and all
 sent-word : (x : Result World) (g : Stage) (l : List Answer) → granted (sentOn g x .answer ∷ l) ≡ true → (granted l ≡ true → words l ≡ true)
     → words (sentOn g x .answer ∷ l) ≡ true
 unfolding granted allPass wordOf

@@ -11,7 +11,6 @@ use Rattle.fields.specs.Bytes.{withBit}
 use Rattle.fields.specs.Capacities.{mostData, mostTransfer}
 use Rattle.fields.specs.Refusals.{good}
 use Rattle.fields.specs.Model.{sizeOf, total}
-use Rattle.fields.specs.declared.id.SectorId.{SectorId}
 use Rattle.fields.proofs.Sizes.{size-2}
 use Rattle.tracks.specs.Rows.{idsFrom}
 use Rattle.store.specs.Find.{found, findFrom}
@@ -34,17 +33,14 @@ use Rattle.saves.proofs.ReadBack.{read-back}
 abbrev pub start : Stage
 start = record { setting = record { room = mostData; transfer = mostTransfer }; world = changeDisk (Holds (good fresh)) newWorld }
 
--- the ID of a sector of cylinder 7, and a save of 512 bytes to it
-abbrev numbered : ℕ → SectorId
-numbered r = record { c = 7; h = 0; r = r; n = 2 }
-
+-- a save to cylinder 7: 512 bytes to a sector
 abbrev with : ℕ → ℕ → Save
 with r b = record {
   seekC1 = 0;
   cylinder = 7;
   code = 0x45;
   c1 = 0;
-  id = numbered r;
+  id = record { c = 7; h = 0; r = r; n = 2 };
   eot = r;
   gap = 0x2A;
   dtl = 0xFF;
@@ -106,7 +102,7 @@ grants = record { first = refl; second = refl; alone = refl; behind = refl; othe
 -- ---- they are saves, and the Read Data reads the first one back
 
 -- such a save, where its sector is there
-with-is : (r b place : ℕ) → sectorAt fresh 0 7 (numbered r) ≡ found place (blank 2 0xE5 (numbered r)) → IsSave (with r b) fresh
+with-is : (r b place : ℕ) → sectorAt fresh 0 7 (with r b .id) ≡ found place (blank 2 0xE5 (with r b .id)) → IsSave (with r b) fresh
 unfolding commandOf commandBy rows maskRows
 with-is r b place e = record {
   writes = refl;
@@ -114,7 +110,7 @@ with-is r b place e = record {
   writes-drive-0 = refl;
   as-many = length-replicate {A = ℕ} 512 b ∙ sym size-2;
   place = place;
-  sector = blank 2 0xE5 (numbered r);
+  sector = blank 2 0xE5 (with r b .id);
   there = e;
 }
 
@@ -177,7 +173,7 @@ ends = record { sends = refl; grants = grants .last }
 
 -- the save changes sector 3 of cylinder 7 and nothing else
 pub example-touches : Ready (run acted E start .end .world) (savedBy example fresh)
-    × Only (addressOf example) (example .content) (blank 2 0xE5 (numbered 3)) fresh (savedBy example fresh)
+    × Only (addressOf example) (example .content) (blank 2 0xE5 (record { c = 7; h = 0; r = 3; n = 2 })) fresh (savedBy example fresh)
 unfolding example-is with-is
 example-touches = save-touches example fresh start E start-ready example-is (sending (bytesOf example) _ (grants .first))
 
