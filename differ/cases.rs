@@ -2,7 +2,7 @@
 //! byte tells the kind, below 128 loads, else sessions.
 
 use crate::chance::Chance;
-use crate::watch::{Checked, Watch, tell};
+use crate::watch::{Checked, Watch, tell, told};
 use crate::{homes, host, loads, sessions, sizes};
 
 /// How many kinds there are of loads, and of sessions.
@@ -62,15 +62,7 @@ impl Plan {
             && homes::run(&mut watch)
             && self.run_loads(&mut chance, &mut watch)
             && self.run_sessions(&mut chance, &mut watch);
-        println!("{watch}");
-        println!(
-            "{}",
-            if good {
-                "no difference"
-            } else {
-                "a difference"
-            }
-        );
+        tell_end(good, &watch);
         good
     }
 
@@ -106,15 +98,7 @@ fn seed(chance: &mut Chance, kind: Option<u64>) -> u64 {
 pub fn replay(seed: u64) -> bool {
     let mut watch = Watch::aloud();
     let good = lengths_are_right() && run_case(seed, &mut watch);
-    println!("{watch}");
-    println!(
-        "{}",
-        if good {
-            "no difference"
-        } else {
-            "a difference"
-        }
-    );
+    tell_end(good, &watch);
     good
 }
 
@@ -130,15 +114,11 @@ pub fn tell_end(good: bool, watch: &Watch) {
 
 /// Runs one case, and tells of a difference.
 fn run_case(seed: u64, watch: &mut Watch) -> bool {
-    match checked(seed, watch) {
-        Ok(()) => true,
-        Err(difference) => {
-            tell(format_args!(
-                "case      {seed:#x} (differ replay {seed:#x})\n{difference}"
-            ));
-            false
-        }
-    }
+    let done = checked(seed, watch);
+    told(
+        format_args!("case      {seed:#x} (differ replay {seed:#x})"),
+        done,
+    )
 }
 
 fn checked(seed: u64, watch: &mut Watch) -> Checked {

@@ -11,8 +11,8 @@ use crate::pair::{Kept, Pair};
 use crate::session::{self, Call, Session, Slot};
 use crate::store::{Store, rust_load};
 use crate::stream::{self, Record};
-use crate::watch::{Checked, Difference, Watch};
-use crate::{cases, loads, watch};
+use crate::watch::{Checked, Difference, Watch, told};
+use crate::{cases, loads};
 
 /// The one image for which the Rust takes about 3 GB, which is left out.
 const LARGE: &str = "many-sectors-16581375";
@@ -35,24 +35,18 @@ pub fn run(folder: &str, name: Option<&str>) -> Option<bool> {
     let mut good = true;
     for record in &records {
         if chosen(record.name()) && record.name() != LARGE {
-            good &= told(record.name(), run_image(record, &mut watch));
+            let done = run_image(record, &mut watch);
+            good &= told(format_args!("kept      {}", record.name()), done);
         }
     }
     for session in sessions.iter().filter(|session| !session.is_refusal()) {
         if chosen(session.name()) {
-            good &= told(session.name(), run_session(session, &mut watch));
+            let done = run_session(session, &mut watch);
+            good &= told(format_args!("kept      {}", session.name()), done);
         }
     }
     cases::tell_end(good, &watch);
     Some(good)
-}
-
-/// Tells of a difference in the one of this name, and answers whether there is none.
-fn told(name: &str, done: Checked) -> bool {
-    if let Err(difference) = &done {
-        watch::tell(format_args!("kept      {name}\n{difference}"));
-    }
-    done.is_ok()
 }
 
 fn run_image(record: &Record, watch: &mut Watch) -> Checked {

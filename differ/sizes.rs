@@ -8,20 +8,14 @@ use crate::chance::Chance;
 use crate::dsk::{FIRST, Plan, Sector, Track};
 use crate::pair::{Kept, Pair};
 use crate::store::{Store, rust_load};
-use crate::watch::{Checked, Difference, Watch, tell};
+use crate::watch::{Checked, Difference, Watch, told};
 
 /// More than four sectors of any n have.
 const ROOM: usize = 5_000;
 
 /// Runs them all, to the first difference. Answers whether there was none.
 pub fn run(watch: &mut Watch) -> bool {
-    (0..=255).all(|n| {
-        let done = compare(n, watch);
-        if let Err(difference) = &done {
-            tell(format_args!("size by   n {n}\n{difference}"));
-        }
-        done.is_ok()
-    })
+    (0..=255).all(|n| told(format_args!("size by   n {n}"), compare(n, watch)))
 }
 
 fn compare(n: u8, watch: &mut Watch) -> Checked {

@@ -52,6 +52,14 @@ pub fn tell(words: impl fmt::Display) {
 /// How a step of a case ends.
 pub type Checked<T = ()> = Result<T, Difference>;
 
+/// Tells of a difference, with where it was. Answers whether there was none.
+pub fn told(place: impl fmt::Display, done: Checked) -> bool {
+    if let Err(difference) = &done {
+        tell(format_args!("{place}\n{difference}"));
+    }
+    done.is_ok()
+}
+
 /// The counts of a run, and whether each call is told.
 #[derive(Default)]
 pub struct Watch {

@@ -7,17 +7,14 @@ use crate::chance::Chance;
 use crate::dsk::Plan;
 use crate::home_edges::{Edge, Written};
 use crate::store::{Store, rust_load};
-use crate::watch::{Checked, Difference, Watch, tell};
+use crate::watch::{Checked, Difference, Watch, told};
 use crate::{home, home_edges};
 
 /// Runs them all, to the first difference. Answers whether there was none.
 pub fn run(watch: &mut Watch) -> bool {
     home_edges::all().into_iter().all(|edge| {
         let done = compare_edge(&edge, watch);
-        if let Err(difference) = &done {
-            tell(format_args!("written   {}\n{difference}", edge.0));
-        }
-        done.is_ok()
+        told(format_args!("written   {}", edge.0), done)
     })
 }
 
