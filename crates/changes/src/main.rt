@@ -103,7 +103,7 @@ fn save(fields: &[u8], table: &mut [u8], bytes: &mut [u8], new: &mut [u8]) {
     ) {
         disk::Saved::Refused(why) => refused(why),
         disk::Saved::Missing => replay::put(b" missing\n"),
-        disk::Saved::Good => done(table, bytes),
+        disk::Saved::Good(_) => done(table, bytes),
     }
 }
 

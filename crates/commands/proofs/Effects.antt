@@ -15,12 +15,13 @@ use Rattle.fields.specs.declared.id.SectorId.{SectorId}
 use Rattle.fields.specs.declared.refusal.Refusal.the-variants.{NoTransferRoom, NoRoom}
 use Rattle.tracks.specs.Rows.{idsAt, idsFrom}
 use Rattle.store.specs.Find.{Found, nothing, found}
-use Rattle.store.specs.Search.{sectorAt, sectorByIndex, readAt}
+use Rattle.store.specs.Search.{sectorAt, matchAt, sectorByIndex, readAt}
 use Rattle.store.specs.Store.{roomOf, transferRoom, contents, diskOf}
 use Rattle.store.specs.Fresh.{formatted}
 use Rattle.store.specs.Calls as looks
 use Rattle.disk.specs.Change.{saved, setTrack}
 use Rattle.disk.specs.Calls as calls
+use Rattle.store.specs.declared.answer.Match.{Match}
 use Rattle.store.specs.declared.answer.Has.{Has}
 use Rattle.store.specs.declared.answer.Has.the-variants as has
 use Rattle.store.specs.declared.answer.IdFound.{IdFound}
@@ -35,12 +36,13 @@ use Rattle.store.proofs.Checks.{transfer-in}
 use Rattle.codes.specs.Second.{u, headOf}
 use Rattle.registers.specs.declared.regs.Regs.{Regs}
 use Rattle.registers.specs.declared.regs.Drive.{Drive}
+use Rattle.registers.specs.declared.regs.Report.{Report}
 use Rattle.registers.specs.declared.regs.Written.{Written}
-use Rattle.registers.specs.Boxes.{Empty, Holds, fitted, Named, seven, Turn, Start, Finish, Stay, Reply, ReplyIfNone, Serve, Effect}
+use Rattle.registers.specs.Boxes.{Empty, Holds, fitted, Named, seven, silent, serves, Turn, Start, Finish, Stay, Reply, ReplyIfNone, Serve, Effect}
 use Rattle.registers.specs.View.{slotIf, settingOf, namedIn, writingOf, namedAs}
 use Rattle.registers.specs.Settle.{accepted, declined, driveNamed, replied, regsWithUnread, regsChanged, regsAll, regsResponded, regsOf}
 use Rattle.registers.proofs.Drives.{drive-shown, drive-empty, drive-holds}
-use Rattle.commands.specs.Commands.{byte, idOf, sizesOf, ready, does, puts, noId, missing, notReady, senseIf, senseDrive, seekIf, seekTo}
+use Rattle.commands.specs.Commands.{byte, idOf, sizesOf, ready, tells, does, puts, noId, missing, notReady, senseIf, senseDrive, seekIf, seekTo}
 use Rattle.commands.specs.Commands.{readReply, servedAs, readData, startAt, writeData, writeReply, saveAt, written, idGiven, notReadyId, readId, formatOf, formatTrack}
 use Rattle.commands.specs.Lent.{Fills, Stores, readHere, formatHere, writtenHere}
 
@@ -51,12 +53,12 @@ ready-flag true disk = refl
 ready-flag false disk = refl
 
 module _ (r : Regs) (c1 : ℕ) (t b : List ℕ) where
-  pub sense-ran : accepted (replied (senseIf c1 (driveNamed c1 r .cylinder) (driveNamed c1 r .disk)) r)
+  pub sense-ran : accepted silent (replied (senseIf c1 (driveNamed c1 r .cylinder) (driveNamed c1 r .disk)) r)
       ≡ regsOf (does [] (Reply (senseDrive c1 (namedIn c1 r t b)))) r
   unfolding regsOf regsAll regsResponded
   sense-ran =
-      ap (λ (f : Bool). accepted (replied (senseIf c1 (driveNamed c1 r .cylinder) f) r)) (ready-flag (driveNamed c1 r .disk) (diskOf t b))
-      ∙ ap (λ (n : Named). accepted (replied (senseDrive c1 n) r)) (sym (drive-shown r c1 t b))
+      ap (λ (f : Bool). accepted silent (replied (senseIf c1 (driveNamed c1 r .cylinder) f) r)) (ready-flag (driveNamed c1 r .disk) (diskOf t b))
+      ∙ ap (λ (n : Named). accepted silent (replied (senseDrive c1 n) r)) (sym (drive-shown r c1 t b))
 
   pub seek-ran : (c : ℕ) → regsOf (seekIf (fitted c1) c) r ≡ regsOf (seekTo c (namedIn c1 r t b)) r
   seek-ran c = ap (λ (n : Named). regsOf (seekTo c n) r) (sym (drive-shown r c1 t b))
@@ -95,18 +97,18 @@ id-disk c1 index f d (good x) = id-named c1 (sectorByIndex x (headOf c1) (d .cyl
 abbrev pub startEffect : ℕ → SectorId → Has → Result Effect
 startEffect c1 x (has.Refused why) = refused why
 startEffect c1 x has.No = does [] (Reply (missing c1))
-startEffect c1 x has.Yes = does (Start c1 x ∷ []) Stay
+startEffect c1 x (has.Yes m) = tells (serves m) (Start c1 x ∷ []) Stay
 
-start-found : (c1 : ℕ) (x : SectorId) (s : Found Sector) → startEffect c1 x (looks.foundOf s) ≡ startAt c1 x s
+start-found : (c1 : ℕ) (x : SectorId) (m : Match) (s : Found Sector) → startEffect c1 x (looks.foundOf m s) ≡ startAt c1 x m s
 unfolding startAt
-start-found c1 x nothing = refl
-start-found c1 x (found k s) = refl
+start-found c1 x m nothing = refl
+start-found c1 x m (found k s) = refl
 
 start-disk : (c1 : ℕ) (x : SectorId) (f : Bool) (d : Drive) (disk : Result Disk)
     → startEffect c1 x (looks.hasOf disk (headOf c1) (d .cylinder) x) ≡ writeData c1 x (namedAs f d (Holds disk))
 unfolding writeData
 start-disk c1 x f d (refused why) = refl
-start-disk c1 x f d (good y) = start-found c1 x (sectorAt y (headOf c1) (d .cylinder) x)
+start-disk c1 x f d (good y) = start-found c1 x (matchAt y (headOf c1) (d .cylinder) x) (sectorAt y (headOf c1) (d .cylinder) x)
 
 module _ (r : Regs) (c1 : ℕ) (t b : List ℕ) (d : Drive) (e : d ≡ driveNamed c1 r) where
   pub id-none : d .disk ≡ false
@@ -140,9 +142,9 @@ module _ (r : Regs) (c1 : ℕ) (t b : List ℕ) (d : Drive) (e : d ≡ driveName
 -- by what the read answers
 abbrev pub readRegs : Bool → List ℕ → Reading → Regs → Written
 readRegs deleted command (reading.Refused why) r = declined why r
-readRegs deleted command reading.Missing r = accepted (replied (missing (byte command 1)) r)
+readRegs deleted command reading.Missing r = accepted silent (replied (missing (byte command 1)) r)
 readRegs deleted command (reading.Good got) r =
-    accepted (replied (readReply deleted command (got .total) (got .sizes) (got .st1 .bits) (got .st2 .bits)) (regsWithUnread 0 (got .total) (r .lost) r))
+    accepted (serves (got .sector)) (replied (readReply deleted command (got .total) (got .sizes) (got .st1 .bits) (got .st2 .bits)) (regsWithUnread 0 (got .total) (r .lost) r))
 
 -- the answer, and the transfer buffer, of what was filled
 answer-of : calls.Filled → Reading
@@ -156,41 +158,41 @@ module _ (r : Regs) (deleted : Bool) (command b x : List ℕ) where
   abbrev pub Read : Result Effect → Reading → List ℕ → Type 0
   Read e a x′ = Fills e r x (readRegs deleted command a r) x′
 
-  abbrev Served : List Sector → Result Effect
-  Served ss = servedAs (settingOf b x) deleted command ss
+  abbrev Served : Match → List Sector → Result Effect
+  Served m ss = servedAs (settingOf b x) deleted command m ss
 
   read-like : (f : calls.Filled) (e : Result Effect) → Read e (answer-of f) (buffer-of f) → (a : Reading) (x′ : List ℕ) → calls.filled a x′ ≡ f → Read e a x′
   unfolding answer-of buffer-of
   read-like f e h a x′ q =
       (ap (λ (g : calls.Filled). readRegs deleted command (answer-of g) r) q ∙ h .0, ap buffer-of q ∙ h .1)
 
-  fit-read : (v : Bool) (s : Sector) (ss : List Sector) (f : calls.Filled)
-      → f ≡ cond v (calls.filled (calls.readingOf s ss) (over x 0 (contents (s ∷ ss)))) (calls.filled (reading.Refused NoTransferRoom) x)
-      → Read (need v NoTransferRoom (does [] (Serve (contents (s ∷ ss))
+  fit-read : (v : Bool) (m : Match) (s : Sector) (ss : List Sector) (f : calls.Filled)
+      → f ≡ cond v (calls.filled (calls.readingOf m s ss) (over x 0 (contents (s ∷ ss)))) (calls.filled (reading.Refused NoTransferRoom) x)
+      → Read (need v NoTransferRoom (tells (serves m) [] (Serve (contents (s ∷ ss))
       (readReply deleted command (length (contents (s ∷ ss))) (sizesOf (s ∷ ss)) (s .st1 .bits) (s .st2 .bits))))) (answer-of f) (buffer-of f)
   unfolding answer-of buffer-of regsOf regsAll regsResponded
-  fit-read true s ss f q = rw q (refl, refl)
-  fit-read false s ss f q = rw q (refl, refl)
+  fit-read true m s ss f q = rw q (refl, refl)
+  fit-read false m s ss f q = rw q (refl, refl)
 
-  all-read : (ss : List Sector) → Read (Served ss) (answer-of (calls.filledOf x ss)) (buffer-of (calls.filledOf x ss))
+  all-read : (m : Match) (ss : List Sector) → Read (Served m ss) (answer-of (calls.filledOf x m ss)) (buffer-of (calls.filledOf x m ss))
   unfolding servedAs
-  all-read [] = unfold answer-of buffer-of regsOf regsAll regsResponded in (refl, refl)
-  all-read (s ∷ ss) = fit-read (leb (length (contents (s ∷ ss))) (transferRoom x)) s ss _ refl
+  all-read m [] = unfold answer-of buffer-of regsOf regsAll regsResponded in (refl, refl)
+  all-read m (s ∷ ss) = fit-read (leb (length (contents (s ∷ ss))) (transferRoom x)) m s ss _ refl
 
   disk-read : (side cylinder eot : ℕ) (n : SectorId) (disk : Result Disk) → let f = calls.filledFrom x side cylinder n eot disk in
-      Read (after disk (λ y. Served (readAt y side cylinder n eot))) (answer-of f) (buffer-of f)
+      Read (after disk (λ y. Served (matchAt y side cylinder n) (readAt y side cylinder n eot))) (answer-of f) (buffer-of f)
   disk-read side cylinder eot n (refused why) = unfold answer-of buffer-of regsOf in (refl, refl)
-  disk-read side cylinder eot n (good y) = all-read (readAt y side cylinder n eot)
+  disk-read side cylinder eot n (good y) = all-read (matchAt y side cylinder n) (readAt y side cylinder n eot)
 
   module _ (t : List ℕ) (d : Drive) (e : d ≡ driveNamed (byte command 1) r) where
     abbrev ReadAs : Named → Result Effect
     ReadAs = readData (settingOf b x) deleted command
 
     pub read-none : d .disk ≡ false
-        → Fills (readHere deleted command r t b x) r x (accepted (replied (notReady (byte command 1) (idOf command)) r)) x
+        → Fills (readHere deleted command r t b x) r x (accepted silent (replied (notReady (byte command 1) (idOf command)) r)) x
     unfolding readData regsOf regsAll regsResponded
     read-none q =
-        subst (λ (y : Result Effect). Fills y r x (accepted (replied (notReady (byte command 1) (idOf command)) r)) x)
+        subst (λ (y : Result Effect). Fills y r x (accepted silent (replied (notReady (byte command 1) (idOf command)) r)) x)
         (with-none r (byte command 1) t b d e ReadAs q) (refl, refl)
 
     pub read-ran : (h : ℕ) → h ≡ headOf (byte command 1) → (n : SectorId) → n ≡ idOf command
@@ -210,19 +212,19 @@ Short (reading.Refused why) = Unit {0}
 Short reading.Missing = Unit {0}
 Short (reading.Good got) = got .total ≤ mostTransfer
 
-fit-short : (v : Bool) (s : Sector) (ss : List Sector) (x : List ℕ) → leb (length (contents (s ∷ ss))) (transferRoom x) ≡ v
-    → Short (answer-of (cond v (calls.filled (calls.readingOf s ss) (over x 0 (contents (s ∷ ss)))) (calls.filled (reading.Refused NoTransferRoom) x)))
+fit-short : (v : Bool) (m : Match) (s : Sector) (ss : List Sector) (x : List ℕ) → leb (length (contents (s ∷ ss))) (transferRoom x) ≡ v
+    → Short (answer-of (cond v (calls.filled (calls.readingOf m s ss) (over x 0 (contents (s ∷ ss)))) (calls.filled (reading.Refused NoTransferRoom) x)))
 unfolding answer-of
-fit-short true s ss x e = omega (arith, leb-true (length (contents (s ∷ ss))) (transferRoom x) e, transfer-in x)
-fit-short false s ss x e = tt
+fit-short true m s ss x e = omega (arith, leb-true (length (contents (s ∷ ss))) (transferRoom x) e, transfer-in x)
+fit-short false m s ss x e = tt
 
-all-short : (x : List ℕ) (ss : List Sector) → Short (answer-of (calls.filledOf x ss))
-all-short x [] = unfold answer-of in tt
-all-short x (s ∷ ss) = fit-short (leb (length (contents (s ∷ ss))) (transferRoom x)) s ss x refl
+all-short : (x : List ℕ) (m : Match) (ss : List Sector) → Short (answer-of (calls.filledOf x m ss))
+all-short x m [] = unfold answer-of in tt
+all-short x m (s ∷ ss) = fit-short (leb (length (contents (s ∷ ss))) (transferRoom x)) m s ss x refl
 
 disk-short : (x : List ℕ) (side cylinder eot : ℕ) (n : SectorId) (disk : Result Disk) → Short (answer-of (calls.filledFrom x side cylinder n eot disk))
 disk-short x side cylinder eot n (refused why) = unfold answer-of in tt
-disk-short x side cylinder eot n (good d) = all-short x (readAt d side cylinder n eot)
+disk-short x side cylinder eot n (good d) = all-short x (matchAt d side cylinder n) (readAt d side cylinder n eot)
 
 pub read-short : (t b : List ℕ) (side cylinder eot : ℕ) (n : SectorId) (x x′ : List ℕ) (a a′ : Reading) → a ≡ a′
     → calls.filled a x′ ≡ calls.readOf t b side cylinder n eot x → Short a′
@@ -245,10 +247,10 @@ module _ (r : Regs) (command t b : List ℕ) (d : Drive) (e : d ≡ driveNamed (
   -- by what `set_track` answers
   abbrev pub formatRegs : Done → Written
   formatRegs (done.Refused why) = declined why r
-  formatRegs done.Good = accepted (replied (seven (u (byte command 1)) 0 0 (record { c = 0; h = 0; r = 0; n = byte command 2 })) r)
+  formatRegs done.Good = accepted silent (replied (seven (u (byte command 1)) 0 0 (record { c = 0; h = 0; r = 0; n = byte command 2 })) r)
 
   abbrev Reply7 : Disk → Result Effect
-  Reply7 new = puts [] new (seven (u (byte command 1)) 0 0 (record { c = 0; h = 0; r = 0; n = byte command 2 }))
+  Reply7 new = puts silent [] new (seven (u (byte command 1)) 0 0 (record { c = 0; h = 0; r = 0; n = byte command 2 }))
 
   abbrev Formatted : Result Effect → looks.Outcome Done → Type 0
   Formatted y (looks.outcome a t′ b′) = Stores y r t b (formatRegs a) t′ b′
@@ -268,11 +270,11 @@ module _ (r : Regs) (command t b : List ℕ) (d : Drive) (e : d ≡ driveNamed (
 
     pub format-none : d .disk ≡ false
         → let n : SectorId = record { c = d .cylinder; h = headOf (byte command 1); r = 0; n = byte command 2 } in
-        Stores (formatHere command r t b x) r t b (accepted (replied (notReady (byte command 1) n) r)) t b
+        Stores (formatHere command r t b x) r t b (accepted silent (replied (notReady (byte command 1) n) r)) t b
     unfolding formatTrack regsOf regsAll regsResponded
     format-none q =
         let n : SectorId = record { c = d .cylinder; h = headOf (byte command 1); r = 0; n = byte command 2 } in
-        subst (λ (y : Result Effect). Stores y r t b (accepted (replied (notReady (byte command 1) n) r)) t b)
+        subst (λ (y : Result Effect). Stores y r t b (accepted silent (replied (notReady (byte command 1) n) r)) t b)
         (with-none r (byte command 1) t b d e FormatAs q) (refl, (refl, refl))
 
     pub format-ran : (a a′ : Done) (t′ b′ : List ℕ) → d .disk ≡ true → a ≡ a′
@@ -288,46 +290,48 @@ module _ (r : Regs) (command t b : List ℕ) (d : Drive) (e : d ≡ driveNamed (
 -- ---- The end of a write
 
 module _ (r : Regs) (t b held : List ℕ) (few : length held ≤ mostHeld) (d : Drive) (e : d ≡ driveNamed (r .write .c1) r) where
-  abbrev pub Told : Written
-  Told = accepted (replied (writeReply (writingOf (r .write) held)) (regsChanged Finish r))
+  abbrev pub Told : Report → Written
+  Told x = accepted x (replied (writeReply (writingOf (r .write) held)) (regsChanged Finish r))
 
   -- by what `save` answers
   abbrev pub saveRegs : Saved → Written
   saveRegs (saving.Refused why) = declined why r
-  saveRegs saving.Missing = Told
-  saveRegs saving.Good = Told
+  saveRegs saving.Missing = Told silent
+  saveRegs (saving.Good m) = Told (serves m)
 
   abbrev Saving : Result Effect → looks.Outcome Saved → Type 0
   Saving y (looks.outcome a t′ b′) = Stores y r t b (saveRegs a) t′ b′
 
-  put-saved : (v : Bool) (y : Disk)
-      → Saving (need v NoRoom (puts (Finish ∷ []) y (writeReply (writingOf (r .write) held))))
-      (looks.laidAs saving.Refused saving.Good t b (need true NoRoom (need v NoRoom (good y))))
+  put-saved : (v : Bool) (m : Match) (y : Disk)
+      → Saving (need v NoRoom (puts (serves m) (Finish ∷ []) y (writeReply (writingOf (r .write) held))))
+      (looks.laidAs saving.Refused (saving.Good m) t b (need true NoRoom (need v NoRoom (good y))))
   unfolding regsOf regsAll regsResponded
-  put-saved true y = (refl, (refl, refl))
-  put-saved false y = (refl, (refl, refl))
+  put-saved true m y = (refl, (refl, refl))
+  put-saved false m y = (refl, (refl, refl))
 
   module _ (x : List ℕ) where
     abbrev WrittenAs : Named → Result Effect
     WrittenAs = written (settingOf b x) (writingOf (r .write) held)
 
-    at-saved : (y : Disk) (s : Found Sector) → Saving (saveAt (settingOf b x) (writingOf (r .write) held) y s) (calls.saveFound t b (length held) y s)
+    at-saved : (m : Match) (y : Disk) (s : Found Sector)
+        → Saving (saveAt (settingOf b x) (writingOf (r .write) held) m y s) (calls.saveFound t b (length held) m y s)
     unfolding saveAt
-    at-saved y nothing = unfold regsOf regsAll regsResponded in (refl, (refl, refl))
-    at-saved y (found k s) =
+    at-saved m y nothing = unfold regsOf regsAll regsResponded in (refl, (refl, refl))
+    at-saved m y (found k s) =
         let z : leb (length held) 65535 ≡ true = le-leb (length held) 65535 (omega (arith, few)) in
-        rw z (put-saved (leb (byteCount y) (roomOf b)) y)
+        rw z (put-saved (leb (byteCount y) (roomOf b)) m y)
 
     disk-saved : (f : Bool) (disk : Result Disk)
         → Saving (WrittenAs (namedAs f d (Holds disk))) (calls.saveIn t b (headOf (r .write .c1)) (d .cylinder) (r .write .id) held disk)
     unfolding written
     disk-saved f (refused why) = unfold regsOf in (refl, (refl, refl))
     disk-saved f (good y) =
-        at-saved (saved (headOf (r .write .c1)) (d .cylinder) (r .write .id) held y) (sectorAt y (headOf (r .write .c1)) (d .cylinder) (r .write .id))
+        at-saved (matchAt y (headOf (r .write .c1)) (d .cylinder) (r .write .id))
+        (saved (headOf (r .write .c1)) (d .cylinder) (r .write .id) held y) (sectorAt y (headOf (r .write .c1)) (d .cylinder) (r .write .id))
 
-    pub finish-none : d .disk ≡ false → Stores (writtenHere held r t b x) r t b Told t b
+    pub finish-none : d .disk ≡ false → Stores (writtenHere held r t b x) r t b (Told silent) t b
     unfolding written regsOf regsAll regsResponded
-    finish-none q = subst (λ (y : Result Effect). Stores y r t b Told t b) (with-none r (r .write .c1) t b d e WrittenAs q) (refl, (refl, refl))
+    finish-none q = subst (λ (y : Result Effect). Stores y r t b (Told silent) t b) (with-none r (r .write .c1) t b d e WrittenAs q) (refl, (refl, refl))
 
     pub finish-ran : (h : ℕ) → h ≡ headOf (r .write .c1) → (a a′ : Saved) (t′ b′ : List ℕ) → d .disk ≡ true → a ≡ a′
         → looks.outcome a t′ b′ ≡ calls.saveOf t b h (d .cylinder) (r .write .id) held

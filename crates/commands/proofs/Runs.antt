@@ -11,14 +11,15 @@ use Rattle.fields.specs.Model.{Sector, Disk, byteCount}
 use Rattle.fields.specs.declared.id.SectorId.{SectorId}
 use Rattle.fields.specs.declared.refusal.Refusal.{Refusal}
 use Rattle.store.specs.Find.{Found, nothing, found}
-use Rattle.store.specs.Search.{sectorAt, sectorByIndex, readAt}
+use Rattle.store.specs.Search.{sectorAt, matchAt, sectorByIndex, readAt}
+use Rattle.store.specs.declared.answer.Match.{Match}
 use Rattle.store.specs.Store.{contents}
 use Rattle.store.specs.Calls.{fitting}
 use Rattle.disk.specs.Change.{setTrack}
 use Rattle.codes.specs.declared.command.Command.{Command}
 use Rattle.registers.specs.declared.regs.Regs.{Regs}
 use Rattle.registers.specs.declared.regs.Written.{Written}
-use Rattle.registers.specs.Boxes.{Setting, Slot, Empty, Holds, Writing, Named, seven, Response, Stay, Reply, ReplyIfNone, Seeking, Interrupt, Serve, Effect}
+use Rattle.registers.specs.Boxes.{Setting, Slot, Empty, Holds, Writing, Named, seven, silent, Response, Stay, Reply, ReplyIfNone, Seeking, Interrupt, Serve, Effect}
 use Rattle.codes.specs.Second.{u, headOf}
 use Rattle.commands.specs.Commands.{byte, whenReady, puts, formatOf, seekIf, servedAs, readData, startAt, writeData, saveAt, written, idGiven, readId, formatTrack}
 use Rattle.registers.specs.Settle.{regsOf}
@@ -86,23 +87,23 @@ quiet-id c1 index d = when-ready Quiet (λ why. (tt, tt)) (d .slot) _ _ (refl, t
 
 pub quiet-write : (c1 : ℕ) (n : SectorId) (d : Named) → Quiet (writeData c1 n d)
 unfolding writeData startAt
-quiet-write c1 n d = when-ready Quiet (λ why. (tt, tt)) (d .slot) _ _ (refl, tt) (λ x. by (sectorAt x (headOf c1) (d .cylinder) n))
+quiet-write c1 n d = when-ready Quiet (λ why. (tt, tt)) (d .slot) _ _ (refl, tt) (λ x. by (matchAt x (headOf c1) (d .cylinder) n) (sectorAt x (headOf c1) (d .cylinder) n))
   where
-    by : (s : Found Sector) → Quiet (startAt c1 n s)
-    by nothing = (refl, tt)
-    by (found k s) = (refl, tt)
+    by : (m : Match) (s : Found Sector) → Quiet (startAt c1 n m s)
+    by m nothing = (refl, tt)
+    by m (found k s) = (refl, tt)
 
 pub unput-read : (s : Setting) (deleted : Bool) (command : List ℕ) (d : Named) → Unput (readData s deleted command d)
 unfolding readData servedAs
-unput-read s deleted command d = when-ready Unput (λ why. tt) (d .slot) _ _ refl (λ x. served (readAt x _ (d .cylinder) _ _))
+unput-read s deleted command d = when-ready Unput (λ why. tt) (d .slot) _ _ refl (λ x. served (matchAt x _ (d .cylinder) _) (readAt x _ (d .cylinder) _ _))
   where
     needed : (v : Bool) (why : Refusal) (e : Result Effect) → Unput e → Unput (need v why e)
     needed true why e q = q
     needed false why e q = tt
 
-    served : (ss : List Sector) → Unput (servedAs s deleted command ss)
-    served [] = refl
-    served (x ∷ xs) = needed (leb (length (contents (x ∷ xs))) (s .transfer)) _ _ refl
+    served : (m : Match) (ss : List Sector) → Unput (servedAs s deleted command m ss)
+    served m [] = refl
+    served m (x ∷ xs) = needed (leb (length (contents (x ∷ xs))) (s .transfer)) _ _ refl
 
 pub still-format : (s : Setting) (command : List ℕ) (d : Named) → Still (formatTrack s command d)
 unfolding formatTrack
@@ -110,21 +111,21 @@ still-format s command d =
     when-ready Still (λ why. tt) (d .slot) _ _ tt
     (λ x. put (fitting (s .room) (setTrack (headOf (byte command 1)) (d .cylinder) (formatOf command (d .cylinder)) x)))
   where
-    put : (new : Result Disk) → Still (after new (λ x. puts [] x (seven (u (byte command 1)) 0 0 (record { c = 0; h = 0; r = 0; n = byte command 2 }))))
+    put : (new : Result Disk) → Still (after new (λ x. puts silent [] x (seven (u (byte command 1)) 0 0 (record { c = 0; h = 0; r = 0; n = byte command 2 }))))
     put (refused why) = tt
     put (good x) = tt
 
 pub still-written : (s : Setting) (w : Writing) (d : Named) → Still (written s w d)
 unfolding written saveAt
-still-written s w d = when-ready Still (λ why. tt) (d .slot) _ _ tt (λ x. by _ (sectorAt x (headOf (w .c1)) (d .cylinder) (w .id)))
+still-written s w d = when-ready Still (λ why. tt) (d .slot) _ _ tt (λ x. by _ _ (sectorAt x (headOf (w .c1)) (d .cylinder) (w .id)))
   where
     needed : (v : Bool) (why : Refusal) (e : Result Effect) → Still e → Still (need v why e)
     needed true why e q = q
     needed false why e q = tt
 
-    by : (new : Disk) (x : Found Sector) → Still (saveAt s w new x)
-    by new nothing = tt
-    by new (found k x) = needed (leb (byteCount new) (s .room)) _ _ tt
+    by : (m : Match) (new : Disk) (x : Found Sector) → Still (saveAt s w m new x)
+    by m new nothing = tt
+    by m new (found k x) = needed (leb (byteCount new) (s .room)) _ _ tt
 
 -- ---- a whole command
 

@@ -12,7 +12,8 @@ use Rattle.fields.specs.declared.id.SectorId.{SectorId}
 use Rattle.fields.specs.declared.refusal.Refusal.the-variants.{NoRoom, NoTransferRoom}
 use Rattle.tracks.specs.Rows.{idsFrom}
 use Rattle.store.specs.Find.{Found, nothing, found}
-use Rattle.store.specs.Search.{sectorAt, sectorByIndex, numbered, readAt}
+use Rattle.store.specs.Search.{sectorAt, matchAt, sectorByIndex, numbered, readAt}
+use Rattle.store.specs.declared.answer.Match.{Match}
 use Rattle.store.specs.Store.{contents}
 use Rattle.store.specs.Fresh.{formatted}
 use Rattle.store.specs.Calls.{fitting}
@@ -22,7 +23,8 @@ use Rattle.codes.specs.Second.{u, driveOf, headOf}
 use Rattle.codes.specs.declared.command.Command.{Command}
 use Rattle.codes.specs.declared.command.Command.the-variants.{Specify, SenseDrive, Recalibrate, SenseInterrupt, SeekTo}
 use Rattle.codes.specs.declared.command.Command.the-variants.{Version, ReadData, ReadDeleted, WriteData, ReadId, FormatTrack, Unserved, Invalid}
-use Rattle.registers.specs.Boxes.{Setting, Slot, Empty, Holds, Drives, Writing, Named, named, seven}
+use Rattle.registers.specs.declared.regs.Report.{Report}
+use Rattle.registers.specs.Boxes.{Setting, Slot, Empty, Holds, Drives, Writing, Named, named, seven, silent, serves}
 use Rattle.registers.specs.Boxes.{Change, MoveTo, Turn, Start, Finish, Response, Stay, Reply, ReplyIfNone, Seeking, Interrupt, Serve, Effect}
 
 -- ---- The parts of a command
@@ -48,13 +50,16 @@ whenReady (Holds disk) e f = after disk f
 
 -- ---- Effects
 
--- changes and a response, with the disk that was there
+-- changes and a response, with the disk that was there; with something to tell, and with nothing
+abbrev pub tells : Report → List Change → Response → Result Effect
+tells told xs x = good record { changes = xs; response = x; put = none; report = told }
+
 abbrev pub does : List Change → Response → Result Effect
-does xs x = good record { changes = xs; response = x; put = none }
+does xs x = tells silent xs x
 
 -- a disk put, and a reply
-abbrev pub puts : List Change → Disk → List ℕ → Result Effect
-puts xs d reply = good record { changes = xs; response = Reply reply; put = some d }
+abbrev pub puts : Report → List Change → Disk → List ℕ → Result Effect
+puts told xs d reply = good record { changes = xs; response = Reply reply; put = some d; report = told }
 
 -- ---- Replies
 
@@ -106,46 +111,51 @@ unfoldable pub readReply : Bool → List ℕ → ℕ → ℕ → ℕ → ℕ →
 readReply deleted command long sizes st1 st2 =
     seven (u (byte command 1) + 0x40) (endOf long sizes st1) (markOf deleted st2) (numbered (idOf command) (byte command 6))
 
--- what was read: nothing is missing; 9 where it exceeds the transfer room; else it replaces the unread data
-unfoldable pub servedAs : Setting → Bool → List ℕ → List Sector → Result Effect
-servedAs s deleted command [] = does [] (Reply (missing (byte command 1)))
-servedAs s deleted command (x ∷ xs) =
+-- what was read: nothing is missing; 9 where it exceeds the transfer room; else it replaces the unread data, and the first sector is told
+unfoldable pub servedAs : Setting → Bool → List ℕ → Match → List Sector → Result Effect
+servedAs s deleted command m [] = does [] (Reply (missing (byte command 1)))
+servedAs s deleted command m (x ∷ xs) =
     need (leb (length (contents (x ∷ xs))) (s .transfer)) NoTransferRoom
-    (does [] (Serve (contents (x ∷ xs))
+    (tells (serves m) [] (Serve (contents (x ∷ xs))
     (readReply deleted command (length (contents (x ∷ xs))) (sizesOf (x ∷ xs)) (x .st1 .bits) (x .st2 .bits))))
 
 -- not ready: u + 0xC8, 0, 0, c, h, r, n
 unfoldable pub readData : Setting → Bool → List ℕ → Named → Result Effect
 readData s deleted command d =
     whenReady (d .slot) (does [] (Reply (notReady (byte command 1) (idOf command))))
-    (λ disk. servedAs s deleted command (readAt disk (headOf (byte command 1)) (d .cylinder) (idOf command) (byte command 6)))
+    (λ disk.
+    servedAs s deleted command (matchAt disk (headOf (byte command 1)) (d .cylinder) (idOf command))
+    (readAt disk (headOf (byte command 1)) (d .cylinder) (idOf command) (byte command 6)))
 
 -- ---- Write
 
--- found starts the data phase, old reply kept
-unfoldable pub startAt : ℕ → SectorId → Found Sector → Result Effect
-startAt c1 id nothing = does [] (Reply (missing c1))
-startAt c1 id (found k x) = does (Start c1 id ∷ []) Stay
+-- found starts the data phase, old reply kept, and is told
+unfoldable pub startAt : ℕ → SectorId → Match → Found Sector → Result Effect
+startAt c1 id m nothing = does [] (Reply (missing c1))
+startAt c1 id m (found k x) = tells (serves m) (Start c1 id ∷ []) Stay
 
 -- not ready: u + 0xC8, 0, 0, FF four times
 unfoldable pub writeData : ℕ → SectorId → Named → Result Effect
 writeData c1 id d =
-    whenReady (d .slot) (does [] (Reply (notReady c1 noId))) (λ disk. startAt c1 id (sectorAt disk (headOf c1) (d .cylinder) id))
+    whenReady (d .slot) (does [] (Reply (notReady c1 noId)))
+    (λ disk. startAt c1 id (matchAt disk (headOf c1) (d .cylinder) id) (sectorAt disk (headOf c1) (d .cylinder) id))
 
 -- after the last byte: u + 0x40, 80, 00, c, h, r, n
 unfoldable pub writeReply : Writing → List ℕ
 writeReply w = seven (u (w .c1) + 0x40) 0x80 0x00 (w .id)
 
--- the first match at that moment takes the new bytes, 8 where the stored bytes would exceed the data room; with no match the reply is the same
-unfoldable pub saveAt : Setting → Writing → Disk → Found Sector → Result Effect
-saveAt s w new nothing = does (Finish ∷ []) (Reply (writeReply w))
-saveAt s w new (found k x) = need (leb (byteCount new) (s .room)) NoRoom (puts (Finish ∷ []) new (writeReply w))
+-- the first match at that moment takes the new bytes and is told; 8 where the stored bytes would exceed the data room; no match, the same reply
+unfoldable pub saveAt : Setting → Writing → Match → Disk → Found Sector → Result Effect
+saveAt s w m new nothing = does (Finish ∷ []) (Reply (writeReply w))
+saveAt s w m new (found k x) = need (leb (byteCount new) (s .room)) NoRoom (puts (serves m) (Finish ∷ []) new (writeReply w))
 
 -- with no disk the reply is the same
 unfoldable pub written : Setting → Writing → Named → Result Effect
 written s w d =
     whenReady (d .slot) (does (Finish ∷ []) (Reply (writeReply w)))
-    (λ disk. saveAt s w (saved (headOf (w .c1)) (d .cylinder) (w .id) (w .held) disk) (sectorAt disk (headOf (w .c1)) (d .cylinder) (w .id)))
+    (λ disk.
+    saveAt s w (matchAt disk (headOf (w .c1)) (d .cylinder) (w .id)) (saved (headOf (w .c1)) (d .cylinder) (w .id) (w .held) disk)
+    (sectorAt disk (headOf (w .c1)) (d .cylinder) (w .id)))
 
 -- ---- Read ID
 
@@ -178,7 +188,7 @@ formatTrack s command d =
     (does [] (Reply (notReady (byte command 1) (record { c = d .cylinder; h = headOf (byte command 1); r = 0; n = byte command 2 }))))
     (λ disk.
     after (fitting (s .room) (setTrack (headOf (byte command 1)) (d .cylinder) (formatOf command (d .cylinder)) disk)) (λ new.
-    puts [] new (seven (u (byte command 1)) 0 0 (record { c = 0; h = 0; r = 0; n = byte command 2 }))))
+    puts silent [] new (seven (u (byte command 1)) 0 0 (record { c = 0; h = 0; r = 0; n = byte command 2 }))))
 
 -- ---- A whole command
 

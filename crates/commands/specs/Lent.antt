@@ -10,6 +10,7 @@ use Rattle.fields.specs.Model.{Disk}
 use Rattle.store.specs.Store.{tableOf, dataOf}
 use Rattle.codes.specs.declared.command.Command.{Command}
 use Rattle.registers.specs.declared.regs.Regs.{Regs}
+use Rattle.registers.specs.declared.regs.Report.{Report}
 use Rattle.registers.specs.declared.regs.Written.{Written}
 use Rattle.registers.specs.Boxes.{Response, Stay, Reply, ReplyIfNone, Seeking, Interrupt, Serve, Effect, Sent, World}
 use Rattle.registers.specs.View.{settingOf, writingOf, drivesOf, namedIn, worldOf}
@@ -86,7 +87,7 @@ leftOf (good s) r h t b x =
     left (regsOf (good (s .effect)) (regsTaken (s .taking) r)) (heldTaken (s .taking) r h)
     (tableWith (s .effect .put) t) (dataWith (s .effect .put) b) (transferWith (s .effect .response) x)
 
--- what a byte leaves, seen: a refusal, with every byte as it came; or the boxes then
-abbrev pub Sees : Regs → List ℕ → List ℕ → List ℕ → List ℕ → Left → Result World → Type 0
-Sees r h t b x y (refused why) = y ≡ left (record { receipt = receipt.Refused why; regs = r }) h t b x
-Sees r h t b x (left a h′ t′ b′ x′) (good w) = (a .receipt ≡ receipt.Good) × (worldOf (a .regs) h′ t′ b′ x′ ≡ w)
+-- what a byte leaves, seen: a refusal, with every byte as it came; or that it was taken, what is told, and the boxes then
+abbrev pub Sees : Regs → List ℕ → List ℕ → List ℕ → List ℕ → Left → Report → Result World → Type 0
+Sees r h t b x y told (refused why) = y ≡ left (record { receipt = receipt.Refused why; regs = r }) h t b x
+Sees r h t b x (left a h′ t′ b′ x′) told (good w) = (a .receipt ≡ receipt.Good told) × (worldOf (a .regs) h′ t′ b′ x′ ≡ w)

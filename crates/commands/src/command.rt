@@ -27,7 +27,7 @@ ghost use Rattle.disk.specs.Calls.{setOf};
 ghost use Rattle.codes.specs.Second.{headOf};
 ghost use Rattle.registers.specs.Boxes.{fitted, Interrupt, ReplyIfNone};
 ghost use Rattle.registers.specs.View.{namedIn};
-ghost use Rattle.registers.specs.Settle.{accepted, driveNamed, replied, regsWithUnread, regsResponded, regsOf};
+ghost use Rattle.registers.specs.Settle.{driveNamed, replied, regsWithUnread, regsResponded, regsOf};
 ghost use Rattle.commands.specs.Commands.{idOf, noId, missing, notReady, notReadyId, senseIf, seekIf, markOf, readReply, writeData, readId, formatOf};
 ghost use Rattle.commands.specs.Lent.{Fills, Stores, ran, readHere, formatHere, ranHere};
 
@@ -161,7 +161,7 @@ fn write_data(regs: Regs, c1: u8, id: SectorId, table: &[u8], bytes: &[u8]) -> W
     match store::has_sector(table, bytes, head_of(c1), d.cylinder, id) {
         Has::Refused(why) => regs.refused(why),
         Has::No => missing(regs, c1).done(),
-        Has::Yes => regs.started(c1, id).done(),
+        Has::Yes(sector) => regs.started(c1, id).found(sector),
     }
 }
 
@@ -212,7 +212,10 @@ fn read_data(
     ) {
         Reading::Refused(why) => regs.refused(why),
         Reading::Missing => missing(regs, c1).done(),
-        Reading::Good(got) => served(regs, deleted, command, got).done(),
+        Reading::Good(got) => {
+            let sector = got.sector;
+            served(regs, deleted, command, got).found(sector)
+        }
     }
 }
 

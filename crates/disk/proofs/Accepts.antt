@@ -15,8 +15,9 @@ use Rattle.fields.specs.declared.refusal.Refusal.the-variants.{NoRoom}
 use Rattle.fields.proofs.Tests.{never}
 use Rattle.store.specs.Store.{roomOf, tableOf, dataOf, diskOf}
 use Rattle.store.specs.Find.{Found, nothing, found}
-use Rattle.store.specs.Search.{isTrack, isSector, sectorAt}
+use Rattle.store.specs.Search.{isTrack, isSector, sectorAt, matchAt}
 use Rattle.store.specs.Calls.{outcome, laidAs, laid, fitting}
+use Rattle.store.specs.declared.answer.Match.{Match}
 use Rattle.store.specs.declared.answer.Done.the-variants as done
 use Rattle.store.proofs.Rounds.{laid-back}
 use Rattle.store.proofs.Leaves.{fitting-accepted, fitting-left}
@@ -83,23 +84,24 @@ module _ (t b t′ b′ : List ℕ) where
       told (good d) h q = record { before = d; held = h; holds = fitting-left t b (fits t b d h .long) (setTrack side cylinder new d) t′ b′ q }
 
   -- A save that is done: the store was accepted, and the one that is left is accepted and holds the same disk with the sector saved.
-  pub save-left : (side cylinder : ℕ) (id : SectorId) (new : List ℕ) → saveOf t b side cylinder id new ≡ outcome saving.Good t′ b′
+  pub save-left : (side cylinder : ℕ) (id : SectorId) (new : List ℕ) (m : Match) → saveOf t b side cylinder id new ≡ outcome (saving.Good m) t′ b′
       → Altered (saved side cylinder id new) t b t′ b′
   unfolding saveOf
-  save-left side cylinder id new e = told (diskOf t b) refl e
+  save-left side cylinder id new m e = told (diskOf t b) refl e
     where
-      put : (d : Disk) → diskOf t b ≡ good d → (u v : Bool) → leb (byteCount (saved side cylinder id new d)) (roomOf b) ≡ v
-          → laidAs saving.Refused saving.Good t b (need u NoRoom (need v NoRoom (good (saved side cylinder id new d)))) ≡ outcome saving.Good t′ b′
+      put : (k : Match) (d : Disk) → diskOf t b ≡ good d → (u v : Bool) → leb (byteCount (saved side cylinder id new d)) (roomOf b) ≡ v
+          → laidAs saving.Refused (saving.Good k) t b (need u NoRoom (need v NoRoom (good (saved side cylinder id new d)))) ≡ outcome (saving.Good m) t′ b′
           → Altered (saved side cylinder id new) t b t′ b′
-      put d h true true r q = record { before = d; held = h; holds = cc (save-accepted t b d h side cylinder id new (leb-true _ _ r)) }
-      put d h true false r q = never (cc)
-      put d h false v r q = never (cc)
+      put k d h true true r q = record { before = d; held = h; holds = cc (save-accepted t b d h side cylinder id new (leb-true _ _ r)) }
+      put k d h true false r q = never (cc)
+      put k d h false v r q = never (cc)
 
-      found? : (d : Disk) → diskOf t b ≡ good d → (s : Found Sector) → saveFound t b (length new) (saved side cylinder id new d) s ≡ outcome saving.Good t′ b′
+      found? : (k : Match) (d : Disk) → diskOf t b ≡ good d → (s : Found Sector)
+          → saveFound t b (length new) k (saved side cylinder id new d) s ≡ outcome (saving.Good m) t′ b′
           → Altered (saved side cylinder id new) t b t′ b′
-      found? d h nothing q = never (cc)
-      found? d h (found i s) q = put d h (leb (length new) 65535) (leb (byteCount (saved side cylinder id new d)) (roomOf b)) refl q
+      found? k d h nothing q = never (cc)
+      found? k d h (found i s) q = put k d h (leb (length new) 65535) (leb (byteCount (saved side cylinder id new d)) (roomOf b)) refl q
 
-      told : (r : Result Disk) → diskOf t b ≡ r → saveIn t b side cylinder id new r ≡ outcome saving.Good t′ b′ → Altered (saved side cylinder id new) t b t′ b′
+      told : (r : Result Disk) → diskOf t b ≡ r → saveIn t b side cylinder id new r ≡ outcome (saving.Good m) t′ b′ → Altered (saved side cylinder id new) t b t′ b′
       told (refused why) h q = never (cc)
-      told (good d) h q = found? d h (sectorAt d side cylinder id) q
+      told (good d) h q = found? (matchAt d side cylinder id) d h (sectorAt d side cylinder id) q

@@ -15,13 +15,15 @@ use Rattle.fields.specs.Model.{Sector, Track, Disk, byteCount}
 use Rattle.tracks.specs.Block.{rowAt, sectorOf}
 use Rattle.fields.specs.declared.id.SectorId.{SectorId}
 use Rattle.fields.specs.declared.refusal.Refusal.the-variants.{BadStore, NoRoom}
-use Rattle.store.specs.Search.{isTrack, isSector}
+use Rattle.store.specs.declared.answer.Match.{Match}
+use Rattle.store.specs.Find.{Found}
+use Rattle.store.specs.Search.{isTrack, isSector, matchOf}
 use Rattle.store.specs.Store.{roomOf, tracksFor, tableOf, contents, dataOf, countAt, trackAt, tracksAt, bytesAt, wellLaid}
 use Rattle.tracks.specs.Rows.{rowsFor}
 use Rattle.disk.specs.Change.{change, withContent, savedIn, saved}
 use Rattle.store.specs.Calls.{outcome, laidAs}
 use Rattle.disk.specs.Calls.{saveFound, saveIn, saveOf}
-use Rattle.store.specs.Spots.{trackSpot, spotIn, storeSpot, placeAt, placeOf}
+use Rattle.store.specs.Spots.{trackSpot, spotIn, storeSpot, storeBearing, hitOf, storeHit, placeAt, placeOf}
 use Rattle.loading.specs.Laying.{trackFor}
 use Rattle.disk.specs.Saving.{lengthBytes, judged, planAt, planOf}
 use Rattle.store.specs.declared.find.Spot.{Spot}
@@ -33,7 +35,7 @@ use Rattle.disk.specs.declared.saving.Plan.the-variants as plan
 use Rattle.disk.specs.declared.answer.Saved.the-variants as saving
 use Rattle.fields.proofs.Tests.{never}
 use Rattle.store.proofs.Checks.{kept, walkable, disk-bad, disk-good}
-use Rattle.store.proofs.Founds.{rowAtSpot, sector-found, track-in, spot-in}
+use Rattle.store.proofs.Founds.{rowAtSpot, sector-found, match-found, track-in, spot-in}
 use Rattle.store.proofs.Rounds.{data-length}
 use Rattle.disk.proofs.Holds.{part-whole, bytes-are, is-laid}
 use Rattle.disk.proofs.Cuts.{Replaced, piece-of, behind, replaced-length, over-laid, splice-laid, change-length, First, first-row, first-part, rowOnly, trackPart, all-rows, all-contents, all-tracks, all-data, row-first, track-first}
@@ -145,17 +147,17 @@ module _ (t b : List ℕ) (side cylinder : ℕ) (id : SectorId) (new : List ℕ)
 -- ---- how a plan is made
 
 -- the answers of `judge`
-module _ (row from to end count room : ℕ) where
-  pub judged-long : 65535 < count → plan.Refused NoRoom ≡ judged row from to end count room
+module _ (m : Match) (row from to end count room : ℕ) where
+  pub judged-long : 65535 < count → plan.Refused NoRoom ≡ judged m row from to end count room
   unfolding judged
   judged-long h = simp (lt-leb _ _ h)
 
   module _ (h : count ≤ 65535) where
-    pub judged-full : room < end - (to - from) + count → plan.Refused NoRoom ≡ judged row from to end count room
+    pub judged-full : room < end - (to - from) + count → plan.Refused NoRoom ≡ judged m row from to end count room
     unfolding judged
     judged-full l = simp (le-leb _ _ h, lt-leb _ _ l)
 
-    pub judged-good : end - (to - from) + count ≤ room → plan.Put row from to end ≡ judged row from to end count room
+    pub judged-good : end - (to - from) + count ≤ room → plan.Put m row from to end ≡ judged m row from to end count room
     unfolding judged
     judged-good l = simp (le-leb _ _ h, le-leb _ _ l)
 
@@ -167,10 +169,10 @@ planned t b side cylinder id count r p e f = ap (planAt count (roomOf b)) (sym f
 
 -- and where it was judged by the room
 pub planned-at : (t b : List ℕ) (side cylinder : ℕ) (id : SectorId) (count : ℕ) (r : Place) → r ≡ placeOf t b side cylinder id
-    → (index row from to end : ℕ) → r ≡ place.Part index row from to end
-    → (room : ℕ) (p : Plan) → room ≡ roomOf b → p ≡ judged row from to end count room → p ≡ planOf t b side cylinder id count
-planned-at t b side cylinder id count r e index row from to end f room p g h =
-    h ∙ ap (judged row from to end count) g ∙ planned t b side cylinder id count r (place.Part index row from to end) e f
+    → (m : Match) (row from to end : ℕ) → r ≡ place.Part m row from to end
+    → (room : ℕ) (p : Plan) → room ≡ roomOf b → p ≡ judged m row from to end count room → p ≡ planOf t b side cylinder id count
+planned-at t b side cylinder id count r e m row from to end f room p g h =
+    h ∙ ap (judged m row from to end count) g ∙ planned t b side cylinder id count r (place.Part m row from to end) e f
 
 -- ---- what a plan says
 
@@ -187,25 +189,28 @@ module _ (t b : List ℕ) (side cylinder : ℕ) (id : SectorId) (new : List ℕ)
   abbrev pub Says : Plan → Type 0
   Says (plan.Refused why) = outcome (saving.Refused why) t b ≡ saveOf t b side cylinder id new
   Says plan.Missing = outcome saving.Missing t b ≡ saveOf t b side cylinder id new
-  Says (plan.Put row from to end) = Room t b (length new) row from to end × (((k : ℕ) → byteAt t k < 256) → (t′ b′ : List ℕ)
-      → t′ ≡ over t (row + 6) (lengthBytes (length new)) → b′ ≡ over b from (new ++ slice to end b) → outcome saving.Good t′ b′ ≡ saveOf t b side cylinder id new)
+  Says (plan.Put m row from to end) = Room t b (length new) row from to end × (((k : ℕ) → byteAt t k < 256) → (t′ b′ : List ℕ)
+      → t′ ≡ over t (row + 6) (lengthBytes (length new)) → b′ ≡ over b from (new ++ slice to end b) → outcome (saving.Good m) t′ b′ ≡ saveOf t b side cylinder id new)
 
   module _ (e : wellLaid t (roomOf b) ≡ true) where
     -- a save by where the search ended
-    save-found : (s : Spot) → s ≡ storeSpot t side cylinder id
-        → saveOf t b side cylinder id new ≡ saveFound t b (length new) (saved side cylinder id new (held t b)) (rowAtSpot t b s)
+    save-found : (n : ℕ) (s : Spot) → n ≡ storeBearing t side cylinder id → s ≡ storeSpot t side cylinder id → saveOf t b side cylinder id new
+        ≡ saveFound t b (length new) (matchOf n (rowAtSpot t b s)) (saved side cylinder id new (held t b)) (rowAtSpot t b s)
     unfolding saveOf
-    save-found s f =
+    save-found n s g f =
+        let x = sector-found t b side cylinder id ∙ ap (rowAtSpot t b) (sym f) in
+        let y = match-found t b side cylinder id ∙ sym (ap₂ (λ (k : ℕ) (z : Spot). matchOf k (rowAtSpot t b z)) g f) in
         ap (saveIn t b side cylinder id new) (disk-good t b e)
-        ∙ ap (saveFound t b (length new) (saved side cylinder id new (held t b))) (sector-found t b side cylinder id ∙ ap (rowAtSpot t b) (sym f))
+        ∙ ap₂ (λ (m : Match) (z : Found Sector). saveFound t b (length new) m (saved side cylinder id new (held t b)) z) y x
 
-    module _ (i a q : ℕ) (f : At i a q ≡ storeSpot t side cylinder id) where
+    module _ (n i a q : ℕ) (g : n ≡ storeBearing t side cylinder id) (f : At i a q ≡ storeSpot t side cylinder id) where
       -- and by the two tests
       save-tested : (x y : Bool) → leb (length new) 65535 ≡ x → leb (used t - rowAt t a .stored + length new) (roomOf b) ≡ y → saveOf t b side cylinder id new
-          ≡ laidAs saving.Refused saving.Good t b (need x NoRoom (need y NoRoom (good (saved side cylinder id new (held t b)))))
+          ≡ laidAs saving.Refused (saving.Good (record { place = i + 1; count = n })) t b
+          (need x NoRoom (need y NoRoom (good (saved side cylinder id new (held t b)))))
       save-tested x y p r =
-          save-found (At i a q) f
-          ∙ ap₂ (λ (v w : Bool). laidAs saving.Refused saving.Good t b (need v NoRoom (need w NoRoom (good (saved side cylinder id new (held t b))))))
+          save-found n (At i a q) g f
+          ∙ ap₂ (λ (v w : Bool). laidAs saving.Refused (saving.Good (record { place = i + 1; count = n })) t b (need v NoRoom (need w NoRoom (good (saved side cylinder id new (held t b))))))
           p (ap (λ (n : ℕ). leb n (roomOf b)) (save-count t b side cylinder id new e i a q f) ∙ r)
 
       save-room : length new ≤ 65535 → used t - rowAt t a .stored + length new ≤ roomOf b
@@ -217,30 +222,31 @@ module _ (t b : List ℕ) (side cylinder : ℕ) (id : SectorId) (new : List ℕ)
           record { row-in = z .0; small = omega arith; order = z .1; inside = omega (arith, w .0); room = omega (arith, w .0, z .1) }
 
       save-put : (x y : Bool) → leb (length new) 65535 ≡ x → leb (used t - rowAt t a .stored + length new) (roomOf b) ≡ y
-          → Says (cond x (cond y (plan.Put a q (q + rowAt t a .stored) (used t)) (plan.Refused NoRoom)) (plan.Refused NoRoom))
+          → Says (cond x (cond y (plan.Put (record { place = i + 1; count = n }) a q (q + rowAt t a .stored) (used t)) (plan.Refused NoRoom)) (plan.Refused NoRoom))
       save-put false y p r = sym (save-tested false y p r)
       save-put true false p r = sym (save-tested true false p r)
       save-put true true p r = (
         save-room (leb-true _ _ p) (leb-true _ _ r),
         λ small t′ b′ et eb.
             let l = save-laid t b side cylinder id new e i a q f small in
-            (λ k. outcome saving.Good ((et ∙ l .0) k) ((eb ∙ l .1) k)) ∙ sym (save-tested true true p r),
+            (λ k. outcome (saving.Good (record { place = i + 1; count = n })) ((et ∙ l .0) k) ((eb ∙ l .1) k)) ∙ sym (save-tested true true p r),
       )
 
-    spot-says : (s : Spot) → s ≡ storeSpot t side cylinder id → Says (planAt (length new) (roomOf b) (placeAt t s))
+    spot-says : (n : ℕ) (s : Spot) → n ≡ storeBearing t side cylinder id → s ≡ storeSpot t side cylinder id
+        → Says (planAt (length new) (roomOf b) (placeAt t (hitOf n s)))
     unfolding judged
-    spot-says Nothing f = sym (save-found Nothing f)
-    spot-says (At i a q) f =
+    spot-says n Nothing g f = sym (save-found n Nothing g f)
+    spot-says n (At i a q) g f =
         let z : q + rowAt t a .stored - q ≡ rowAt t a .stored = omega arith in
-        rw z (save-put i a q f (leb (length new) 65535) (leb (used t - rowAt t a .stored + length new) (roomOf b)) refl refl)
+        rw z (save-put n i a q g f (leb (length new) 65535) (leb (used t - rowAt t a .stored + length new) (roomOf b)) refl refl)
 
   pub plan-says : Says (planOf t b side cylinder id (length new))
-  unfolding planOf placeOf
+  unfolding planOf placeOf storeHit
   plan-says = told (wellLaid t (roomOf b)) refl
     where
       told : (v : Bool) → wellLaid t (roomOf b) ≡ v
-          → Says (planAt (length new) (roomOf b) (cond v (placeAt t (storeSpot t side cylinder id)) (place.Refused BadStore)))
-      told true e = spot-says e (storeSpot t side cylinder id) refl
+          → Says (planAt (length new) (roomOf b) (cond v (placeAt t (storeHit t side cylinder id)) (place.Refused BadStore)))
+      told true e = spot-says e (storeBearing t side cylinder id) (storeSpot t side cylinder id) refl refl
       told false e = unfold saveOf in ap (saveIn t b side cylinder id new) (sym (disk-bad t b e))
 
   -- to a caller that took the plan apart

@@ -18,19 +18,22 @@ use Rattle.tracks.specs.declared.track.Row.{Row}
 use Rattle.fields.proofs.Sizes.{size-most}
 use Rattle.fields.proofs.Tests.{never}
 use Rattle.store.specs.Find.{Found, nothing, found, findFrom, find}
-use Rattle.store.specs.Search.{isSector, isTrack, numbered, joined, runFrom, readIn, readAt}
+use Rattle.store.specs.Search.{isSector, isTrack, matchIn, matchAt, numbered, joined, runFrom, readIn, readAt}
 use Rattle.store.specs.Store.{transferRoom, contents, sectorsAt, sumAt, countAt, tracksAt, roomOf, wellLaid}
-use Rattle.store.specs.Spots.{rowHere, sectorSpot, trackSpot}
+use Rattle.store.specs.Spots.{rowHere, sectorSpot, trackSpot, rowHit}
 use Rattle.disk.specs.Calls.{filled, readingOf, filledOf, readOf}
-use Rattle.disk.specs.Serving.{rowFirst, more, extentFrom, runOf, Rows, Gathered}
+use Rattle.disk.specs.Serving.{rowFirst, more, extentFrom, runOf, runMatch, Rows, Gathered}
+use Rattle.store.specs.declared.answer.Match.{Match}
+use Rattle.store.specs.declared.find.Hit.{Hit}
+use Rattle.store.specs.declared.find.Hit.the-variants as hit
 use Rattle.store.specs.declared.find.Spot.{Spot}
 use Rattle.store.specs.declared.find.Spot.the-variants.{Nothing, At}
 use Rattle.disk.specs.declared.serve.Extent.{Extent}
 use Rattle.disk.specs.declared.answer.Reading.{Reading}
 use Rattle.disk.specs.declared.answer.Reading.the-variants as reading
-use Rattle.store.proofs.Founds.{rowAtSpot, trackAtSpot, find-row, find-track, track-in, track-rows}
+use Rattle.store.proofs.Founds.{rowAtSpot, trackAtSpot, find-row, find-track, HitSpot, hit-missing, hit-spot, track-in, track-rows}
 use Rattle.store.proofs.Checks.{kept, walkable, disk-bad, disk-good}
-use Rattle.disk.proofs.Gathers.{bytes-whole}
+use Rattle.disk.proofs.Gathers.{row-inside, bytes-whole}
 
 -- ---- the run of the model
 
@@ -136,21 +139,31 @@ module _ (t b : List ℕ) (start first count : ℕ) (rows : Rows t b start first
           let y : rowAt t at .stored + length (contents ss) ≡ length (c ++ contents ss) = omega (arith, w, length-append c (contents ss)) in
           λ j. record { sectors = x j; total = y j }
 
+  -- the row of the first sector stands in the table
+  pub served-row : (r : Hit) → r ≡ rowHit t id start first count → (w : Match) (at place : ℕ) → r ≡ hit.At w at place → at + 8 ≤ 17609
+  served-row r er w at place e =
+      let h = hit-spot t b id start first count w at place (sym e ∙ er) in
+      row-inside t b start first count rows id (At (h .index) at place) (h .spot) (h .index) at place refl
+
   module _ (eot : ℕ) where
-    pub serve-missing : Nothing ≡ sectorSpot t id 0 start first count → (x : List ℕ) → filled reading.Missing x ≡ filledOf x (runOf t b start first count id (id .r) (suc (eot - id .r)))
+    pub serve-missing : hit.Nothing ≡ rowHit t id start first count → (x : List ℕ)
+        → filled reading.Missing x ≡ filledOf x (runMatch t b start first count id) (runOf t b start first count id (id .r) (suc (eot - id .r)))
     serve-missing e x =
         let q : runOf t b start first count id (id .r) (suc (eot - id .r)) ≡ [] =
-        run-spot (id .r) (eot - id .r) ∙ ap (λ (y : Spot). joined (rowAtSpot t b y) (runOf t b start first count id (id .r + 1) (eot - id .r))) (sym e) in
+        run-spot (id .r) (eot - id .r) ∙ ap (λ (y : Spot). joined (rowAtSpot t b y) (runOf t b start first count id (id .r + 1) (eot - id .r))) (sym (hit-missing t b id start first count e)) in
         rw q
 
-    module _ (r : Spot) (er : r ≡ sectorSpot t id 0 start first count) (i at place : ℕ) (e : r ≡ At i at place)
+    module _ (r : Hit) (er : r ≡ rowHit t id start first count) (w : Match) (at place : ℕ) (e : r ≡ hit.At w at place)
         (last : ℕ) (el : last ≡ max (id .r) eot) (m : Extent) (em : m ≡ extentFrom t id start count (id .r) (suc (last - id .r))) where
+      here : HitSpot t b id start first count w at place
+      here = hit-spot t b id start first count w at place (sym e ∙ er)
+
       -- the first sector, before the others
       head-is : runOf t b start first count id (id .r) (suc (eot - id .r))
           ≡ sectorOf (rowAt t at) (drop place b) ∷ runOf t b start first count id (id .r + 1) (eot - id .r)
       head-is =
           run-spot (id .r) (eot - id .r)
-          ∙ ap (λ (y : Spot). joined (rowAtSpot t b y) (runOf t b start first count id (id .r + 1) (eot - id .r))) (sym er ∙ e)
+          ∙ ap (λ (y : Spot). joined (rowAtSpot t b y) (runOf t b start first count id (id .r + 1) (eot - id .r))) (sym (here .spot))
 
       extent-is : m ≡ extentOf (runOf t b start first count id (id .r) (suc (eot - id .r)))
       extent-is =
@@ -183,23 +196,23 @@ module _ (t b : List ℕ) (start first count : ℕ) (rows : Rows t b start first
           mul-le-mul n z
 
       -- the answers where the first sector is there
-      serve-is : (x : List ℕ) → filledOf x (runOf t b start first count id (id .r) (suc (eot - id .r)))
+      serve-is : (x : List ℕ) → filledOf x (runMatch t b start first count id) (runOf t b start first count id (id .r) (suc (eot - id .r)))
           ≡ cond (leb (length (contents (runOf t b start first count id (id .r) (suc (eot - id .r))))) (transferRoom x))
-          (filled (readingOf (sectorOf (rowAt t at) (drop place b)) (runOf t b start first count id (id .r + 1) (eot - id .r)))
+          (filled (readingOf (runMatch t b start first count id) (sectorOf (rowAt t at) (drop place b)) (runOf t b start first count id (id .r + 1) (eot - id .r)))
           (over x 0 (contents (runOf t b start first count id (id .r) (suc (eot - id .r))))))
           (filled (reading.Refused NoTransferRoom) x)
       serve-is x = rw head-is
 
       pub serve-refused : (x : List ℕ) (room : ℕ) → room ≡ transferRoom x → room < m .total
-          → filled (reading.Refused NoTransferRoom) x ≡ filledOf x (runOf t b start first count id (id .r) (suc (eot - id .r)))
+          → filled (reading.Refused NoTransferRoom) x ≡ filledOf x (runMatch t b start first count id) (runOf t b start first count id (id .r) (suc (eot - id .r)))
       serve-refused x room ex h =
           let l : transferRoom x < length (contents (runOf t b start first count id (id .r) (suc (eot - id .r)))) = omega (arith, total-is) in
           sym (serve-is x ∙ simp (lt-leb _ _ l))
 
       pub serve-good : (x : List ℕ) (room : ℕ) → room ≡ transferRoom x → m .total ≤ room → (row : Row) → row ≡ rowAt t at → (size : ℕ) → size ≡ sizeOf (id .n)
           → (x′ : List ℕ) → x′ ≡ over x 0 (contents (runOf t b start first count id (id .r) (m .sectors)))
-          → filled (reading.Good (record { total = m .total; sizes = m .sectors * size; st1 = row .st1; st2 = row .st2 })) x′
-          ≡ filledOf x (runOf t b start first count id (id .r) (suc (eot - id .r)))
+          → filled (reading.Good (record { total = m .total; sizes = m .sectors * size; st1 = row .st1; st2 = row .st2; sector = w })) x′
+          ≡ filledOf x (runMatch t b start first count id) (runOf t b start first count id (id .r) (suc (eot - id .r)))
       serve-good x room ex h row erow size esize x′ ex′ =
           let whole : List Sector = runOf t b start first count id (id .r) (suc (eot - id .r)) in
           let l : length (contents whole) ≤ transferRoom x = omega (arith, total-is) in
@@ -210,7 +223,7 @@ module _ (t b : List ℕ) (start first count : ℕ) (rows : Rows t b start first
           let a′ : m .total ≡ length (contents (sectorOf (rowAt t at) (drop place b) ∷ runOf t b start first count id (id .r + 1) (eot - id .r))) = a ∙ ap (λ (z : List Sector). length (contents z)) head-is in
           let s′ : m .sectors * size ≡ total (λ (y : Sector). sizeOf (y .id .n)) (sectorOf (rowAt t at) (drop place b) ∷ runOf t b start first count id (id .r + 1) (eot - id .r)) =
           s ∙ ap (total (λ (y : Sector). sizeOf (y .id .n))) head-is in
-          (λ j. filled (reading.Good (record { total = a′ j; sizes = s′ j; st1 = erow j .st1; st2 = erow j .st2 })) (y j))
+          (λ j. filled (reading.Good (record { total = a′ j; sizes = s′ j; st1 = erow j .st1; st2 = erow j .st2; sector = here .which j })) (y j))
           ∙ sym (serve-is x ∙ simp (le-leb _ _ l))
 
 -- ---- a read of a store
@@ -222,12 +235,12 @@ module _ (t b x : List ℕ) (side cylinder eot : ℕ) (id : SectorId) where
 
   module _ (e : wellLaid t (roomOf b) ≡ true) where
     -- what is read, by where the search for the track ended
-    read-is : (y : Spot) → y ≡ trackSpot t side cylinder 0 1 0 (byteAt t 0) → readOf t b side cylinder id eot x ≡ filledOf x (readIn id eot (trackAtSpot t b y))
-    unfolding readOf readAt
+    read-is : (y : Spot) → y ≡ trackSpot t side cylinder 0 1 0 (byteAt t 0) → readOf t b side cylinder id eot x ≡ filledOf x (matchIn id (trackAtSpot t b y)) (readIn id eot (trackAtSpot t b y))
+    unfolding readOf readAt matchAt
     read-is y ey =
         let f : find (isTrack side cylinder) (tracksAt t b 1 0 (byteAt t 0)) ≡ trackAtSpot t b y =
         find-track t b side cylinder 0 1 0 (byteAt t 0) ∙ ap (trackAtSpot t b) (sym ey) in
-        rw (disk-good t b e) (ap (λ (z : Found Track). filledOf x (readIn id eot z)) f)
+        rw (disk-good t b e) (ap (λ (z : Found Track). filledOf x (matchIn id z) (readIn id eot z)) f)
 
     pub read-none : Nothing ≡ trackSpot t side cylinder 0 1 0 (byteAt t 0) → filled reading.Missing x ≡ readOf t b side cylinder id eot x
     unfolding trackAtSpot
@@ -243,7 +256,10 @@ module _ (t b x : List ℕ) (side cylinder eot : ℕ) (id : SectorId) where
           let q : sumAt t (at + 6) n ≡ sumAt t (at + 6) (countAt t at) = ap (sumAt t (at + 6)) en in
           record { inside = omega (arith, w .0); few = h; total = w .1; held = omega (arith, p .1, k .bytes) }
 
-      pub read-found : (r : Reading) (x′ : List ℕ) → filled r x′ ≡ filledOf x (runOf t b (at + 6) place n id (id .r) (suc (eot - id .r)))
+      pub read-found : (r : Reading) (x′ : List ℕ)
+          → filled r x′ ≡ filledOf x (runMatch t b (at + 6) place n id) (runOf t b (at + 6) place n id (id .r) (suc (eot - id .r)))
           → filled r x′ ≡ readOf t b side cylinder id eot x
       unfolding trackAtSpot
-      read-found r x′ g = g ∙ ap (λ (m : ℕ). filledOf x (runOf t b (at + 6) place m id (id .r) (suc (eot - id .r)))) en ∙ sym (read-is (At i at place) f)
+      read-found r x′ g =
+          g ∙ ap (λ (m : ℕ). filledOf x (runMatch t b (at + 6) place m id) (runOf t b (at + 6) place m id (id .r) (suc (eot - id .r)))) en
+          ∙ sym (read-is (At i at place) f)

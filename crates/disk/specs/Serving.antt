@@ -5,7 +5,8 @@ use mathlib.Core.Bool.{cond}
 use Rattle.tracks.specs.Block.{rowAt}
 use Rattle.fields.specs.declared.id.SectorId.{SectorId}
 use Rattle.store.specs.Find.{Found, nothing, found}
-use Rattle.store.specs.Search.{numbered, runFrom}
+use Rattle.store.specs.declared.answer.Match.{Match}
+use Rattle.store.specs.Search.{firstMatch, numbered, runFrom}
 use Rattle.store.specs.Store.{sectorsAt, sumAt, contents, tableLength}
 use Rattle.fields.specs.Model.{Sector}
 use mathlib.Core.Path.{_≡_}
@@ -32,6 +33,10 @@ extentFrom t id start count r (suc left) = more t (rowFirst t (numbered id r) st
 -- what is read of so many numbers among rows of a store
 abbrev pub runOf : List ℕ → List ℕ → ℕ → ℕ → ℕ → SectorId → ℕ → ℕ → List Sector
 runOf t b start first count id r k = runFrom id (sectorsAt t b start first count) r k
+
+-- which of the sectors is the first that is read
+abbrev pub runMatch : List ℕ → List ℕ → ℕ → ℕ → ℕ → SectorId → Match
+runMatch t b start first count id = firstMatch id (sectorsAt t b start first count)
 
 -- rows that lie in the table and whose bytes lie in the data buffer
 pub record Rows (t b : List ℕ) (start first count : ℕ) : Type 0 where

@@ -2,21 +2,23 @@
 use fields::Refusal;
 use fields::St1;
 use fields::St2;
+use store::Match;
 ghost use mathlib.Core.Path.{_≡_};
 ghost use Rattle.disk.specs.Calls.{endOf};
 
 pub enum Saved {
-    Good,
+    Good(Match),
     Missing,
     Refused(Refusal),
 }
 
-// What a read put into the transfer buffer: how many bytes, how many the sizes by n would be, and the first sector's status bytes.
+// What a read put into the transfer buffer: how many bytes, how many the sizes by n would be, the first sector's status bytes, and which one that is.
 pub struct Served {
     pub total: usize,
     pub sizes: usize,
     pub st1: St1,
     pub st2: St2,
+    pub sector: Match,
 }
 
 impl Served {

@@ -2,6 +2,7 @@
 use crate::answer::Saved;
 use fields::Refusal;
 use fields::SectorId;
+use store::Match;
 use store::Place;
 use store::locate;
 use store::room_of;
@@ -16,11 +17,12 @@ ghost use Rattle.store.specs.Calls.{outcome};
 ghost use Rattle.disk.specs.Calls.{saveOf};
 ghost use Rattle.disk.specs.Saving.{lengthBytes, judged, planOf};
 
-// What a save will do: refuse, find no sector, or put its bytes over those of [from, to), before the others up to `end`.
+// What a save will do: refuse, find no sector, or put its bytes over those of [from, to), which that one has, before the others up to `end`.
 enum Plan {
     Refused(Refusal),
     Missing,
     Put {
+        which: Match,
         row: usize,
         from: usize,
         to: usize,
@@ -49,9 +51,17 @@ fn put_length(table: &mut [u8], at: usize, count: usize)
 }
 
 // Whether so many bytes can take the place of those that were found, where the bytes of all sectors end at `end`.
-fn judge(row: usize, from: usize, to: usize, end: usize, count: usize, room: usize) -> Plan
+fn judge(
+    which: Match,
+    row: usize,
+    from: usize,
+    to: usize,
+    end: usize,
+    count: usize,
+    room: usize,
+) -> Plan
     requires { ⌜ (from ≤ to) × ((to ≤ end) × (end ≤ mostData)) ⌝ }
-    ensures { λ r. ⌜ r ≡ judged row from to end count room ⌝ }
+    ensures { λ r. ⌜ r ≡ judged which row from to end count room ⌝ }
 {
     if 65535 < count {
         return Plan::Refused(Refusal::NoRoom);
@@ -59,7 +69,13 @@ fn judge(row: usize, from: usize, to: usize, end: usize, count: usize, room: usi
     if room < end - (to - from) + count {
         return Plan::Refused(Refusal::NoRoom);
     }
-    Plan::Put { row, from, to, end }
+    Plan::Put {
+        which,
+        row,
+        from,
+        to,
+        end,
+    }
 }
 
 // What a save of so many bytes will do.
@@ -70,12 +86,12 @@ fn prepare(table: &[u8], bytes: &[u8], side: u8, cylinder: u8, id: SectorId, cou
         Place::Refused(why) => Plan::Refused(why),
         Place::Nothing => Plan::Missing,
         Place::Part {
-            index: _,
+            which,
             row,
             from,
             to,
             end,
-        } => judge(row, from, to, end, count, room_of(bytes)),
+        } => judge(which, row, from, to, end, count, room_of(bytes)),
     }
 }
 
@@ -94,10 +110,16 @@ pub fn save(
     match prepare(table, bytes, side, cylinder, id, new.len()) {
         Plan::Refused(why) => Saved::Refused(why),
         Plan::Missing => Saved::Missing,
-        Plan::Put { row, from, to, end } => {
+        Plan::Put {
+            which,
+            row,
+            from,
+            to,
+            end,
+        } => {
             splice(bytes, from, to, end, new);
             put_length(table, row, new.len());
-            Saved::Good
+            Saved::Good(which)
         }
     }
 }

@@ -3,8 +3,10 @@ use crate::answer::Reading;
 use crate::answer::Served;
 use fields::Refusal;
 use fields::SectorId;
+use store::Hit;
 use store::Spot;
 use store::Tallied;
+use store::first_sector;
 use store::get_sector;
 use store::get_track;
 use store::greater;
@@ -18,7 +20,7 @@ ghost use lib.ListN.{length};
 ghost use Rattle.buffer.specs.Over.{over};
 ghost use Rattle.store.specs.Store.{contents, tableLength};
 ghost use Rattle.disk.specs.Calls.{filled, filledOf, readOf};
-ghost use Rattle.disk.specs.Serving.{extentFrom, Rows, Gathered, runOf};
+ghost use Rattle.disk.specs.Serving.{extentFrom, Rows, Gathered, runOf, runMatch};
 
 // How many sectors a read finds, and how many bytes they store.
 pub struct Extent {
@@ -122,13 +124,14 @@ fn read_rows(
 ) -> Reading
     requires { ⌜ Rows (now table) (now bytes) start first count ⌝ }
     ensures { λ r. ⌜ filled r (now (transfer .exit)) ≡ filledOf (now (transfer .entry))
+        (runMatch (now (table .entry)) (now (bytes .entry)) start first count id)
         (runOf (now (table .entry)) (now (bytes .entry)) start first count id (id .r) (suc (eot - id .r))) ⌝ }
 {
-    let Spot::At {
-        index: _,
-        at,
-        place: _,
-    } = get_sector(table, start, first, count, id)
+    let Hit::At {
+        which,
+        row: at,
+        from: _,
+    } = first_sector(table, start, first, count, id)
     else {
         return Reading::Missing;
     };
@@ -147,6 +150,7 @@ fn read_rows(
         sizes: sectors * id.len(),
         st1,
         st2,
+        sector: which,
     })
 }
 

@@ -17,6 +17,7 @@ use Rattle.fields.specs.declared.refusal.Refusal.{Refusal}
 use Rattle.fields.specs.declared.refusal.Refusal.the-variants.{BadController}
 use Rattle.fields.proofs.Tests.{never}
 use Rattle.store.specs.Spots.{placeOf}
+use Rattle.store.specs.declared.answer.Match.{Match}
 use Rattle.store.specs.declared.find.Place.{Place}
 use Rattle.store.specs.declared.find.Place.the-variants as place
 use Rattle.store.proofs.Checks.{room-in}
@@ -115,7 +116,7 @@ module _ (l t d x : List ℕ) (b : ℕ) (a : Written) (h′ t′ d′ x′ : Lis
   -- what is then in the bytes, by the answer
   taken-bytes : (z : Receipt) (r : Regs) → ((why : Refusal) → z ≡ receipt.Refused why → h′ ≡ heldAt l)
       → ifTaken z (relaid Laid r) Laid ≡ ifTaken z (numbersFor r h′) l
-  taken-bytes receipt.Good r k = ap (numbersFor r) (held-put l h′ long)
+  taken-bytes (receipt.Good z) r k = ap (numbersFor r) (held-put l h′ long)
   taken-bytes (receipt.Refused why) r k = put-back l h′ long (k why refl)
 
   settled : ((why : Refusal) → a .receipt ≡ receipt.Refused why → h′ ≡ heldAt l) → answered w m ≡ writtenOn Laid a
@@ -144,5 +145,5 @@ module _ (t b : List ℕ) (side cylinder : ℕ) (id : SectorId) (r : Place) (l :
   unfolding partOn
   part-word p e = ap partWord (sym e ∙ l)
 
-  pub part-few : (index row from to end : ℕ) → r ≡ place.Part index row from to end → (from ≤ to) × (to ≤ mostData)
-  part-few index row from to end e = omega (arith, part-within t b side cylinder id r l index row from to end e, room-in b)
+  pub part-few : (m : Match) (row from to end : ℕ) → r ≡ place.Part m row from to end → (from ≤ to) × (to ≤ mostData)
+  part-few m row from to end e = omega (arith, part-within t b side cylinder id r l m row from to end e, room-in b)

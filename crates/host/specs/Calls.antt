@@ -15,6 +15,7 @@ use Rattle.store.specs.Find.{nothing}
 use Rattle.store.specs.Store.{diskOf}
 use Rattle.store.specs.Spots.{placeOf}
 use Rattle.store.specs.Calls.{Outcome, outcome, Penned, penned}
+use Rattle.store.specs.declared.answer.Match.{Match}
 use Rattle.store.specs.declared.find.Place.{Place}
 use Rattle.store.specs.declared.find.Place.the-variants as place
 use Rattle.store.specs.declared.answer.Done.{Done}
@@ -34,7 +35,7 @@ use Rattle.floppy.specs.Calls.{newFloppy, Wrote, wrote}
 use Rattle.home.specs.Calls.{imageIn, extentOf, writtenAs}
 use Rattle.layout.specs.Layout.{controllerLength, numbersFor, floppyBytes, regsAt, heldAt, regsIn}
 use Rattle.sheet.specs.Calls.{sheetWritten, Resuming, resuming, sheetRead}
-use Rattle.words.specs.Words.{refusalWord, byteWord, flagWord, doneWord, receiptWord, extentWord}
+use Rattle.words.specs.Words.{refusalWord, byteWord, flagWord, doneWord, matchWord, receiptWord, extentWord}
 use Rattle.floppy.specs.declared.Shown.{Shown}
 use Rattle.floppy.specs.declared.Changed.{Changed}
 
@@ -109,7 +110,7 @@ pub data Sending : Type 0 where
 
 -- bytes anew where the byte was taken
 abbrev pub ifTaken : Receipt → List ℕ → List ℕ → List ℕ
-ifTaken receipt.Good new l = new
+ifTaken (receipt.Good x) new l = new
 ifTaken (receipt.Refused why) new l = l
 
 -- the controller then, where its held bytes are in place, and the same with all that is lent
@@ -166,25 +167,28 @@ imageLengthOn t b = extentWord (extentOf (imageIn t b))
 unfoldable pub writeImageOn : List ℕ → List ℕ → List ℕ → Answered
 writeImageOn t b s = pennedOn (writtenAs (imageIn t b) s)
 
--- the place of a sector's bytes in bits 32 to 63, their number in bits 0 to 31; 0 where there is none or 2 applies
+-- the place of a sector's bytes in bits 32 to 63, which sector it is in bits 16 to 31, how many bytes in bits 0 to 15; 0 for none or where 2 applies
 abbrev pub partWord : Place → ℕ
 partWord (place.Refused why) = 0
 partWord place.Nothing = 0
-partWord (place.Part index row from to end) = from * 2 ^ 32 + (to - from)
+partWord (place.Part m row from to end) = from * 2 ^ 32 + matchWord m + (to - from)
 
 -- `disk_sector`
 unfoldable pub partOn : List ℕ → List ℕ → ℕ → ℕ → SectorId → ℕ
 partOn t b side cylinder id = partWord (placeOf t b side cylinder id)
 
--- the part of a list that a word names: the place in bits 32 to 63, the length in bits 0 to 31
+-- the part of a list that such a word names: the place in bits 32 to 63, the length in bits 0 to 15
 abbrev pub partNamed : ℕ → List ℕ → List ℕ
-partNamed w b = take (w % 2 ^ 32) (drop (w / 2 ^ 32) b)
+partNamed w b = take (w % 2 ^ 16) (drop (w / 2 ^ 32) b)
 
--- where no part is named: 2 applies, no sector is found, or the one that is found has no bytes and stands at place 0
+-- which sector any word names: its place in the track in bits 16 to 23, how many bear its ID in bits 24 to 31
+abbrev pub matchNamed : ℕ → Match
+matchNamed w = record { place = w / 2 ^ 16 % 2 ^ 8; count = w / 2 ^ 24 % 2 ^ 8 }
+
+-- where no part is named: 2 applies, or no sector is found
 pub data NoPart (t b : List ℕ) (side cylinder : ℕ) (id : SectorId) : Type 0 where
   no-disk : (why : Refusal) → diskOf t b ≡ refused why → NoPart t b side cylinder id
   no-sector : (d : Disk) → diskOf t b ≡ good d → sectorAt d side cylinder id ≡ nothing → NoPart t b side cylinder id
-  no-bytes : (index row end : ℕ) → placeOf t b side cylinder id ≡ place.Part index row 0 0 end → NoPart t b side cylinder id
 
 -- ---- An answer by value, as words and bytes
 

@@ -25,6 +25,7 @@ use words::extent_word;
 use words::flag_word;
 use words::geometry_word;
 use words::has_word;
+use words::match_word;
 use words::receipt_word;
 use words::refusal_word;
 use words::wide;
@@ -105,7 +106,7 @@ fn settle(a: Written, controller: &mut [u8]) -> u64
 {
     let receipt = a.receipt;
     match receipt {
-        Receipt::Good => {
+        Receipt::Good(_) => {
             encode(a.regs, controller);
             receipt_word(receipt)
         }
@@ -327,7 +328,8 @@ pub extern "C" fn disk_has_sector(
     has_word(store::has_sector(table, bytes, side, cylinder, id))
 }
 
-// Answers where the bytes of that sector stand and how many they are, as a plain number; 0 where there is none, or no disk.
+// Answers where the bytes of that sector stand, which one of its track it is and how many bytes it has, as a plain number; 0 where there is none, or
+// no disk.
 #[no_mangle]
 pub extern "C" fn disk_sector(
     table: &[u8],
@@ -346,11 +348,11 @@ pub extern "C" fn disk_sector(
         Place::Refused(_) => 0,
         Place::Nothing => 0,
         Place::Part {
-            index: _,
+            which,
             row: _,
             from,
             to,
             end: _,
-        } => (from as u64) * 4294967296 + ((to - from) as u64),
+        } => (from as u64) * 4294967296 + match_word(which) + ((to - from) as u64),
     }
 }

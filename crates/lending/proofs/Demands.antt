@@ -14,7 +14,7 @@ use Rattle.registers.specs.Boxes.{World}
 use Rattle.registers.specs.Ports.{portByte}
 use Rattle.registers.specs.View.{settingOf, impossibleIn}
 use Rattle.layout.specs.Layout.{regsAt, formed}
-use Rattle.words.specs.Words.{boolWord}
+use Rattle.words.specs.Words.{boolWord, reportWord}
 use Rattle.host.proofs.Same.{image-formed}
 use Rattle.saves.specs.Events.{Question, motorOn?, whichTrack?, diskIn?, Event, poll, read, send, ask, switch, swap, widen}
 use Rattle.saves.specs.Events.{Answer, showed, gave, took, said, stood, denied, Run, run, granted}
@@ -23,6 +23,7 @@ use Rattle.saves.proofs.Unbrokens.{run-unbroken}
 use Rattle.saves.specs.Words.{inDrive, Ready, Save, bytesOf, addressOf, IsSave, savedBy, Sends, Only, ReadsBack, readBytes, replyTo, LosesNone, dataReads, givenIn}
 use Rattle.runs.specs.Hosts.{Host, called, seen, stageOf, newHost, Sound}
 use Rattle.runs.proofs.Any.{calls-run, calls-sound, calls-tame, new-sound, new-run, polls-calls, calls-never-2}
+use Rattle.runs.proofs.Before.{actedBefore, answerBefore, before-run}
 use Rattle.runs.proofs.Gets.{save-calls, second-calls, order-calls, back-calls}
 use Rattle.lending.specs.Lendings.{Lending, isAnswer, exported, wordOf, hostAt, lendingOf, seenIn, stageIn, storeIn, Formed, allPass, Posts, wordsRead, newLending}
 use Rattle.lending.proofs.Exports.{sound-fitting, refusal-fails, host-run, host-back, host-formed}
@@ -38,7 +39,7 @@ unfolding allPass granted wordOf
 pass-granted [] e = refl
 pass-granted (showed n ∷ l) e = pass-granted l (pass-on (isAnswer n) (allPass (map wordOf l)) e)
 pass-granted (gave n ∷ l) e = pass-granted l (pass-on (isAnswer n) (allPass (map wordOf l)) e)
-pass-granted (took ∷ l) e = pass-granted l e
+pass-granted (took x ∷ l) e = pass-granted l (pass-on (isAnswer (reportWord x)) (allPass (map wordOf l)) e)
 pass-granted (said f ∷ l) e = pass-granted l (pass-on (isAnswer (boolWord f)) (allPass (map wordOf l)) e)
 pass-granted (stood c ∷ l) e = pass-granted l (pass-on (isAnswer c) (allPass (map wordOf l)) e)
 pass-granted (denied why ∷ l) e = let z : cond false (allPass (map wordOf l)) false ≡ true = ap (λ (v : Bool). cond v (allPass (map wordOf l)) false) (sym (refusal-fails why)) ∙ e in never (cc)
@@ -93,6 +94,14 @@ module _ (es : List Event) (l : Lending) (f : Formed l) where
 
   pub bytes-end : stageIn (run exported es l .end) ≡ run acted es (stageIn l) .end
   bytes-end = machine-end es l (hostAt l) (here l f)
+
+  -- Port bytes stay (2026-05): on the machine of before, whose bytes sent tell nothing, the same calls leave the same, and answer what these answer with
+  -- nothing told.
+  pub bytes-before : (run actedBefore es (stageIn l) .end ≡ stageIn (run exported es l .end))
+      × (run actedBefore es (stageIn l) .answers ≡ map answerBefore (run acted es (stageIn l) .answers))
+  bytes-before =
+      let b = before-run es (stageIn l) in
+      (ap (λ (r : Run Answer Stage). r .end) b ∙ sym bytes-end, ap (λ (r : Run Answer Stage). r .answers) b)
 
   -- They leave bytes of a controller that is one.
   pub bytes-formed : Formed (run exported es l .end)

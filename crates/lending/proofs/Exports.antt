@@ -1,13 +1,11 @@
 -- An exported call on the bytes of a controller that is one is the call on that controller; so are sequences of them.
 use mathlib.Core.Path.{_≡_, refl, sym, ap, subst, _∙_}
-use Prim.Native.Nat.{ℕ, _≤_, _<_}
+use Prim.Native.Nat.{ℕ, _<_}
 use native.Mathlib.Omega.{arith}
 use mathlib.Core.Bool.{false}
 use mathlib.Core.List.{List, map}
 use lib.ListN.{length-drop}
-use borrow.Author.Tests.{le-ltb}
 use Rattle.fields.specs.Bytes.{numberAt}
-use Rattle.fields.specs.Refusals.{numberOf}
 use Rattle.fields.specs.declared.refusal.Refusal.{Refusal}
 use Rattle.fields.specs.declared.refusal.Refusal.the-variants.{BadController, BadStore, ShortImage, NotAnImage, NotATrack}
 use Rattle.fields.specs.declared.refusal.Refusal.the-variants.{TooManyTracks, TooManySectors, NoRoom, NoTransferRoom, LongInput}
@@ -67,27 +65,24 @@ done-word (done.Refused why) = refl
 
 receipt-word : (a : Receipt) → receiptWord a ≡ wordOf (receiptSaid a)
 unfolding wordOf
-receipt-word receipt.Good = refl
+receipt-word (receipt.Good x) = refl
 receipt-word (receipt.Refused why) = refl
 
 -- a refusal is no answer
-number-some : (why : Refusal) → 1 ≤ numberOf why
-number-some BadController = omega arith
-number-some BadStore = omega arith
-number-some ShortImage = omega arith
-number-some NotAnImage = omega arith
-number-some NotATrack = omega arith
-number-some TooManyTracks = omega arith
-number-some TooManySectors = omega arith
-number-some NoRoom = omega arith
-number-some NoTransferRoom = omega arith
-number-some LongInput = omega arith
-number-some BadSheet = omega arith
-number-some NoImage = omega arith
-number-some ShortBuffer = omega arith
-
 pub refusal-fails : (why : Refusal) → isAnswer (refusalWord why) ≡ false
-refusal-fails why = le-ltb (refusalWord why) 256 (omega (arith, number-some why))
+refusal-fails BadController = refl
+refusal-fails BadStore = refl
+refusal-fails ShortImage = refl
+refusal-fails NotAnImage = refl
+refusal-fails NotATrack = refl
+refusal-fails TooManyTracks = refl
+refusal-fails TooManySectors = refl
+refusal-fails NoRoom = refl
+refusal-fails NoTransferRoom = refl
+refusal-fails LongInput = refl
+refusal-fails BadSheet = refl
+refusal-fails NoImage = refl
+refusal-fails ShortBuffer = refl
 
 -- ---- one call
 

@@ -1,12 +1,12 @@
 -- The same saves and the same Read Data by exported calls, on the bytes of a new controller into which a fresh disk is put; none of them is refused.
 use mathlib.Core.Path.{_≡_, refl, sym, ap, subst, _∙_}
-use Prim.Native.Nat.{ℕ, zero, suc, _^_, _/_, _≤_, _<_}
+use Prim.Native.Nat.{ℕ, zero, suc, _^_, _/_, _%_, _≤_, _<_}
 use native.Mathlib.Omega.{arith}
 use mathlib.Core.Bool.{Bool, true, false, cond}
 use mathlib.Core.List.{List, [], _∷_, map}
 use lib.ListN.{length, take}
 use lib.Dec.{ltb}
-use borrow.Author.Tests.{ltb-true}
+use borrow.Author.Tests.{ltb-true, eq-eqb}
 use Rattle.fields.specs.Bytes.{byteAt}
 use Rattle.fields.specs.Refusals.{Result, refused, good}
 use Rattle.fields.proofs.Sizes.{size-2}
@@ -23,7 +23,10 @@ use Rattle.codes.specs.Table.{maskRows, rows, commandBy, commandOf}
 use Rattle.registers.specs.Boxes.{World}
 use Rattle.registers.specs.View.{impossible, impossibleIn}
 use Rattle.registers.specs.Calls.{diskSet}
-use Rattle.sending.specs.Machine.{writePort}
+use Rattle.registers.specs.declared.regs.Report.{Report}
+use Rattle.store.specs.declared.answer.Match.{Match}
+use Rattle.sending.specs.Machine.{writePort, reportOf}
+use Rattle.words.specs.Words.{matchWord}
 use Rattle.floppy.specs.Calls.{newFloppy}
 use Rattle.layout.specs.Layout.{numbersFor, floppyBytes}
 use Rattle.host.specs.Calls.{answered, writeImageOn}
@@ -35,7 +38,7 @@ use Rattle.saves.proofs.Witness.{start, example, again, other, sendAll, sent-al
 use Rattle.runs.specs.Hosts.{Host, called, seen, stageOf}
 use Rattle.runs.proofs.Any.{calls-run}
 use Rattle.runs.proofs.Witness.{host, host-sound, host-stage, host-ready}
-use Rattle.lending.specs.Lendings.{Lending, exported, wordOf, lendingOf, seenIn, storeIn, Formed, Readable, allPass, Posts, wordsRead}
+use Rattle.lending.specs.Lendings.{Lending, isAnswer, exported, wordOf, lendingOf, seenIn, storeIn, Formed, Readable, allPass, Posts, wordsRead}
 use Rattle.lending.proofs.Exports.{sound-fitting, readable-formed, host-back}
 use Rattle.lending.proofs.Demands.{Stands, stands, machine-words, save-bytes, second-bytes, order-bytes, back-bytes}
 use Rattle.lending.proofs.SentHome.{save-home}
@@ -99,19 +102,24 @@ at-end es l g a = record {
 abbrev words : List Answer → Bool
 words l = allPass (map wordOf l)
 
+-- what is told is no refusal
+match-passes : (m : Match) → isAnswer (matchWord m) ≡ true
+match-passes m = let z : matchWord m / 256 % 256 ≡ 0 = omega arith in eq-eqb (matchWord m / 256 % 256) 0 z
+
 -- where bytes that are sent are granted, no word is a refusal: the first of them, and all
-sent-word : (x : Result World) (g : Stage) (l : List Answer) → granted (sentOn g x .answer ∷ l) ≡ true → (granted l ≡ true → words l ≡ true)
-    → words (sentOn g x .answer ∷ l) ≡ true
+sent-word : (x : Result World) (told : Report) (g : Stage) (l : List Answer) → granted (sentOn g told x .answer ∷ l) ≡ true
+    → (granted l ≡ true → words l ≡ true) → words (sentOn g told x .answer ∷ l) ≡ true
 unfolding granted allPass wordOf
-sent-word (refused why) g l ok rest = never (cc)
-sent-word (good w) g l ok rest = rest ok
+sent-word (refused why) told g l ok rest = never (cc)
+sent-word (good w) told g l ok rest = rw (match-passes (told .sector)) (rest ok)
 
 sent-words : (l : List ℕ) (g : Stage) → granted (run acted (sendAll l) g .answers) ≡ true → words (run acted (sendAll l) g .answers) ≡ true
 unfolding run acted sendAll allPass
 sent-words [] g ok = refl
 sent-words (b ∷ l) g ok =
     let x : Result World = writePort (g .setting) (g .world) b in
-    sent-word x g (run acted (sendAll l) (sentOn g x .then) .answers) ok (sent-words l (sentOn g x .then))
+    let y : Stage = sentOn g (reportOf (g .setting) (g .world) b) x .then in
+    sent-word x (reportOf (g .setting) (g .world) b) g (run acted (sendAll l) y .answers) ok (sent-words l y)
 
 posts : (bytes : List ℕ) (l : Lending) (g : Stage) → At l g → granted (run acted (sendAll bytes) g .answers) ≡ true
     → Posts (sendAll bytes) bytes (run exported (sendAll bytes) l .answers)

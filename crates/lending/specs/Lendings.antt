@@ -1,10 +1,10 @@
 -- The calls as a host makes them on bytes: the exported functions, each by its promise (`crates/host/src/lib.rt`).
 use mathlib.Core.Path.{_≡_}
-use Prim.Native.Nat.{ℕ, _<_}
+use Prim.Native.Nat.{ℕ, _/_, _%_, _<_}
 use mathlib.Core.Bool.{Bool, true, false, cond}
 use mathlib.Core.List.{List, [], _∷_, _++_}
 use mathlib.Core.Option.{some}
-use lib.Dec.{ltb}
+use lib.Dec.{eqb}
 use Rattle.fields.specs.Bytes.{byteAt}
 use Rattle.fields.specs.Refusals.{Result}
 use Rattle.fields.specs.Model.{Disk}
@@ -13,7 +13,7 @@ use Rattle.registers.specs.Boxes.{World}
 use Rattle.registers.specs.View.{impossibleIn}
 use Rattle.floppy.specs.Calls.{newFloppy}
 use Rattle.layout.specs.Layout.{floppyBytes, regsAt, heldAt, formed}
-use Rattle.words.specs.Words.{refusalWord, boolWord}
+use Rattle.words.specs.Words.{refusalWord, boolWord, reportWord}
 use Rattle.host.specs.Calls.{motorOn, trackOn, diskOn, Answered, answered, setMotorOn, setDiskOn, statusOn, readOn, Sending, sending, writeOn}
 use Rattle.saves.specs.Events.{Question, motorOn?, whichTrack?, diskIn?, Event, poll, read, send, ask, switch, swap, widen}
 use Rattle.saves.specs.Events.{Answer, showed, gave, took, said, stood, denied, Next}
@@ -43,7 +43,7 @@ afterSending (sending w c t b x) = record { answer = w; then = record { controll
 
 -- whether a word is an answer: a refusal's number stands in bits 8 to 15
 abbrev pub isAnswer : ℕ → Bool
-isAnswer w = ltb w 256
+isAnswer w = eqb (w / 256 % 256) 0
 
 -- the store that is lent from then on, unless the change was refused
 abbrev pub swappedOn : Answered → List ℕ → List ℕ → Lending → Next ℕ Lending
@@ -75,7 +75,7 @@ exported (widen y) l =
 unfoldable pub wordOf : Answer → ℕ
 wordOf (showed n) = n
 wordOf (gave n) = n
-wordOf took = 0
+wordOf (took x) = reportWord x
 wordOf (said f) = boolWord f
 wordOf (stood c) = c
 wordOf (denied why) = refusalWord why

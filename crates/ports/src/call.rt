@@ -40,7 +40,7 @@ pub struct Bench {
 struct Answers {
     floppy: Floppy,
     heard: Heard,
-    receipt: Receipt,
+    done: Done,
 }
 
 // How far bytes were sent: whole rounds, bytes of the next one, whether all, and the controller then.
@@ -48,7 +48,7 @@ struct Sent {
     floppy: Floppy,
     rounds: usize,
     taken: usize,
-    receipt: Receipt,
+    done: Done,
 }
 
 // A new controller without a disk, and the most that is lent of each buffer.
@@ -76,17 +76,18 @@ fn with(mut bench: Bench, floppy: Floppy) -> Bench {
     bench
 }
 
-fn receipt_of(done: Done) -> Receipt {
-    match done {
-        Done::Refused(why) => Receipt::Refused(why),
-        Done::Good => Receipt::Good,
+// Whether a byte was taken, or why not.
+fn done_of(receipt: Receipt) -> Done {
+    match receipt {
+        Receipt::Refused(why) => Done::Refused(why),
+        Receipt::Good(_) => Done::Good,
     }
 }
 
 // The bench after a change of motor or disk.
 fn changed(bench: Bench, a: Changed) -> Bench {
     let done = a.done;
-    show::end(receipt_of(done));
+    show::end(done);
     let after = a.floppy;
     with(bench, after)
 }
@@ -178,7 +179,7 @@ fn reads(floppy: Floppy, dataport: bool, times: usize, lent: bool, transfer: &[u
                 return Answers {
                     floppy: f,
                     heard,
-                    receipt: Receipt::Refused(why),
+                    done: Done::Refused(why),
                 };
             }
             Byte::Of(b) => heard = hears(heard, b),
@@ -188,7 +189,7 @@ fn reads(floppy: Floppy, dataport: bool, times: usize, lent: bool, transfer: &[u
     Answers {
         floppy: f,
         heard,
-        receipt: Receipt::Good,
+        done: Done::Good,
     }
 }
 
@@ -196,9 +197,9 @@ fn reads(floppy: Floppy, dataport: bool, times: usize, lent: bool, transfer: &[u
 fn read(bench: Bench, dataport: bool, times: usize, transfer: &[u8]) -> Bench {
     let room = buffer::part(transfer, 0, bench.transfer);
     let a = reads(bench.floppy, dataport, times, bench.lent, room);
-    let receipt = a.receipt;
+    let done = a.done;
     show::gave(a.heard);
-    show::end(receipt);
+    show::end(done);
     let after = a.floppy;
     with(bench, after)
 }
@@ -217,17 +218,18 @@ fn send_round(
     while k < text.len() {
         let a = write_once(f, lent, text[k], table, bytes, transfer);
         let receipt = a.receipt;
+        let done = done_of(receipt);
         f = a.floppy;
-        match receipt {
-            Receipt::Refused(_) => {
+        match done {
+            Done::Refused(_) => {
                 return Sent {
                     floppy: f,
                     rounds: 0,
                     taken: k,
-                    receipt,
+                    done,
                 };
             }
-            Receipt::Good => {}
+            Done::Good => {}
         }
         k += 1;
     }
@@ -235,7 +237,7 @@ fn send_round(
         floppy: f,
         rounds: 1,
         taken: 0,
-        receipt: Receipt::Good,
+        done: Done::Good,
     }
 }
 
@@ -253,18 +255,18 @@ fn send_times(
     let mut k: usize = 0;
     while k < times {
         let s = send_round(f, text, lent, table, bytes, transfer);
-        let receipt = s.receipt;
+        let done = s.done;
         f = s.floppy;
-        match receipt {
-            Receipt::Refused(_) => {
+        match done {
+            Done::Refused(_) => {
                 return Sent {
                     floppy: f,
                     rounds: k,
                     taken: s.taken,
-                    receipt,
+                    done,
                 };
             }
-            Receipt::Good => {}
+            Done::Good => {}
         }
         k += 1;
     }
@@ -272,7 +274,7 @@ fn send_times(
         floppy: f,
         rounds: k,
         taken: 0,
-        receipt: Receipt::Good,
+        done: Done::Good,
     }
 }
 
@@ -315,15 +317,15 @@ fn send(
     replay::field(text.len() as u64);
     show::bytes(text);
     let s = send_lent(bench, text, times, tables, contents, transfer);
-    let receipt = s.receipt;
-    match receipt {
-        Receipt::Refused(_) => {
+    let done = s.done;
+    match done {
+        Done::Refused(_) => {
             show::number(b" after", s.rounds);
             replay::field(s.taken as u64);
         }
-        Receipt::Good => {}
+        Done::Good => {}
     }
-    show::end(receipt);
+    show::end(done);
     let after = s.floppy;
     with(bench, after)
 }

@@ -3,9 +3,9 @@ use floppy::Floppy;
 use libc::STDOUT_FILENO;
 use registers::Byte;
 use registers::Flag;
-use registers::Receipt;
 use registers::Regs;
 use registers::Seek;
+use store::Done;
 
 // More bytes are not printed one by one.
 const MOST_HEX: usize = 24;
@@ -64,10 +64,10 @@ fn refused(why: fields::Refusal) {
 }
 
 // The end of a call's line.
-pub(crate) fn end(receipt: Receipt) {
-    match receipt {
-        Receipt::Refused(why) => refused(why),
-        Receipt::Good => {}
+pub(crate) fn end(done: Done) {
+    match done {
+        Done::Refused(why) => refused(why),
+        Done::Good => {}
     }
     replay::put(b"\n");
 }

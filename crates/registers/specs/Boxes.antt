@@ -7,7 +7,10 @@ use lib.Dec.{eqb}
 use Rattle.fields.specs.Refusals.{Result, good}
 use Rattle.fields.specs.Model.{Disk}
 use Rattle.fields.specs.declared.id.SectorId.{SectorId}
+use Rattle.store.specs.declared.answer.Match.{Match}
+use Rattle.store.specs.Search.{noMatch}
 use Rattle.codes.specs.Second.{driveOf}
+use Rattle.registers.specs.declared.regs.Report.{Report}
 use Rattle.registers.specs.declared.regs.Seek.{Seek}
 use Rattle.registers.specs.declared.regs.Seek.the-variants.{Idle, Running, Done}
 
@@ -121,11 +124,19 @@ pub data Response : Type 0 where
   Interrupt : ℕ → Response
   Serve : List ℕ → List ℕ → Response
 
--- all that a command, or the end of a write, does: the changes, in order, and the disk that is then in the drive where it is another
+-- what the host is told beside that a byte was taken: nothing, or which sector was served (2026-05)
+abbrev pub silent : Report
+silent = record { sector = noMatch }
+
+abbrev pub serves : Match → Report
+serves m = record { sector = m }
+
+-- all that a command, or the end of a write, does: the changes, in order, the disk that is then in the drive where it is another, and what is told
 pub record Effect : Type 0 where
   pub changes : List Change
   pub response : Response
   pub put : Option Disk
+  pub report : Report
 
 -- all that a byte does
 pub record Sent : Type 0 where

@@ -9,6 +9,7 @@ use Rattle.fields.specs.declared.refusal.Refusal.{Refusal}
 use Rattle.registers.specs.declared.regs.Regs.{Regs}
 use Rattle.registers.specs.declared.regs.Drive.{Drive}
 use Rattle.registers.specs.declared.regs.Pending.{Pending}
+use Rattle.registers.specs.declared.regs.Report.{Report}
 use Rattle.registers.specs.declared.regs.Receipt.{Receipt}
 use Rattle.registers.specs.declared.regs.Receipt.the-variants as receipt
 use Rattle.registers.specs.declared.regs.Written.{Written}
@@ -133,9 +134,9 @@ regsWithMotor x r = record {
 
 -- ---- Answers
 
--- a byte that was taken, with the registers then; and one that was not, with the registers as they came
-abbrev pub accepted : Regs → Written
-accepted r = record { receipt = receipt.Good; regs = r }
+-- a byte that was taken, with what is told and the registers then; and one that was not, with the registers as they came
+abbrev pub accepted : Report → Regs → Written
+accepted x r = record { receipt = receipt.Good x; regs = r }
 
 abbrev pub declined : Refusal → Regs → Written
 declined why r = record { receipt = receipt.Refused why; regs = r }
@@ -206,11 +207,11 @@ regsResponded (Serve bytes reply) r = replied reply (regsWithUnread 0 (length by
 
 unfoldable pub regsOf : Result Effect → Regs → Written
 regsOf (refused why) r = declined why r
-regsOf (good e) r = accepted (regsResponded (e .response) (regsAll (e .changes) r))
+regsOf (good e) r = accepted (e .report) (regsResponded (e .response) (regsAll (e .changes) r))
 
 -- an answer, or where it refuses the refusal with the registers as they came
 abbrev pub keptIf : Receipt → Written → Regs → Written
-keptIf receipt.Good a r = a
+keptIf (receipt.Good x) a r = a
 keptIf (receipt.Refused why) a r = declined why r
 
 abbrev pub kept : Regs → Written → Written

@@ -8,6 +8,7 @@ pub use regs::Flag;
 pub use regs::Pending;
 pub use regs::Receipt;
 pub use regs::Regs;
+pub use regs::Report;
 pub use regs::Seek;
 pub use regs::Switched;
 pub use regs::Told;

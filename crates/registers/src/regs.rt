@@ -5,6 +5,7 @@ use codes::drive_of;
 use fields::Refusal;
 use fields::SectorId;
 use store::Done;
+use store::Match;
 ghost use mathlib.Core.Path.{_≡_};
 ghost use mathlib.Core.List.{_∷_, []};
 ghost use Prim.Native.Nat.{_<_};
@@ -12,7 +13,7 @@ ghost use lib.ListN.{getD};
 ghost use lib.Dec.{leb};
 ghost use Rattle.fields.specs.Capacities.{mostHeld};
 ghost use Rattle.codes.specs.Table.{commandOf, bytesFor};
-ghost use Rattle.registers.specs.Boxes.{fitted, seven, Add, Hold, Clear, Turn, Start, Finish, MoveTo};
+ghost use Rattle.registers.specs.Boxes.{silent, serves, fitted, seven, Add, Hold, Clear, Turn, Start, Finish, MoveTo};
 ghost use Rattle.registers.specs.View.{impossible, wrongWrite};
 ghost use Rattle.registers.specs.Settle.{accepted, declined, driveNamed, replied, regsWithDrive, regsTaken, regsChanged, kept};
 
@@ -73,9 +74,14 @@ pub struct Told {
     pub regs: Regs,
 }
 
-// What the host gets for a byte that it sent: it was taken, or why it was not.
+// What the host is told beside that a byte was taken: which sector a Read, a Write Data or the end of a write has found.
+pub struct Report {
+    pub sector: Match,
+}
+
+// What the host gets for a byte that it sent: it was taken, with what there is to tell, or why it was not.
 pub enum Receipt {
-    Good,
+    Good(Report),
     Refused(Refusal),
 }
 
@@ -145,14 +151,22 @@ impl Regs {
         self.wrong_write()
     }
 
-    // The byte was taken.
-    pub fn done(self) -> Written
-        ensures { λ r. ⌜ r ≡ accepted self ⌝ }
+    // The byte was taken, and this sector was found.
+    pub fn found(self, sector: Match) -> Written
+        ensures { λ r. ⌜ r ≡ accepted (serves sector) self ⌝ }
     {
+        let report = Report { sector };
         Written {
-            receipt: Receipt::Good,
+            receipt: Receipt::Good(report),
             regs: self,
         }
+    }
+
+    // The byte was taken, and there is nothing to tell.
+    pub fn done(self) -> Written
+        ensures { λ r. ⌜ r ≡ accepted silent self ⌝ }
+    {
+        self.found(Match::none())
     }
 
     // The byte was not taken.
@@ -171,7 +185,7 @@ impl Regs {
     {
         let receipt = a.receipt;
         match receipt {
-            Receipt::Good => a,
+            Receipt::Good(_) => a,
             Receipt::Refused(why) => self.refused(why),
         }
     }

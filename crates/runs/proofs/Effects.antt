@@ -21,7 +21,8 @@ use Rattle.fields.specs.declared.refusal.Refusal.the-variants.{TooManyTracks, T
 use Rattle.fields.specs.declared.refusal.Refusal.the-variants.{BadSheet, NoImage, ShortBuffer}
 use Rattle.fields.proofs.Tests.{never}
 use Rattle.store.specs.Find.{Found, nothing, found}
-use Rattle.store.specs.Search.{sectorAt, sectorByIndex, readAt}
+use Rattle.store.specs.Search.{sectorAt, matchAt, sectorByIndex, readAt}
+use Rattle.store.specs.declared.answer.Match.{Match}
 use Rattle.store.specs.Store.{roomOf, transferRoom, contents, dataOf, diskOf}
 use Rattle.store.specs.Calls.{within, fitting}
 use Rattle.store.proofs.Checks.{room-in, transfer-in, disk-bad, disk-good}
@@ -30,11 +31,11 @@ use Rattle.store.proofs.Rounds.{data-length}
 use Rattle.disk.specs.Change.{saved, setTrack}
 use Rattle.codes.specs.declared.command.Command.{Command}
 use Rattle.codes.specs.declared.command.Command.the-variants.{Specify, SenseDrive, Recalibrate, SenseInterrupt, SeekTo, Version, ReadData, ReadDeleted, WriteData, ReadId, FormatTrack, Unserved, Invalid}
-use Rattle.registers.specs.Boxes.{Setting, Slot, Empty, Holds, Drives, Writing, Named, fitted, namedIf, named, seven}
+use Rattle.registers.specs.Boxes.{Setting, Slot, Empty, Holds, Drives, Writing, Named, fitted, namedIf, named, seven, silent, serves}
 use Rattle.registers.specs.Boxes.{Finish, Response, Stay, Reply, ReplyIfNone, Seeking, Interrupt, Serve, Effect}
 use Rattle.registers.specs.View.{settingOf, slotIf}
 use Rattle.codes.specs.Second.{u, headOf}
-use Rattle.commands.specs.Commands.{byte, idOf, whenReady, does, puts, missing, senseIf, ready, seekIf, readReply, servedAs, readData, startAt, writeData, writeReply, saveAt, written, idGiven, readId, formatOf, formatTrack, obeyed}
+use Rattle.commands.specs.Commands.{byte, idOf, whenReady, tells, does, puts, missing, senseIf, ready, seekIf, readReply, servedAs, readData, startAt, writeData, writeReply, saveAt, written, idGiven, readId, formatOf, formatTrack, obeyed}
 use Rattle.commands.specs.Lent.{dataWith, transferWith}
 use Rattle.registers.specs.Possible.{AllFair, Short}
 use Rattle.saves.specs.Stages.{Unbroken}
@@ -129,25 +130,25 @@ module _ (Bad : Type 0) (s : Setting) where
   read-proper : (deleted : Bool) (l : List ℕ) (d : Named) → Clean Bad (d .slot) → Proper (readData s deleted l d)
   unfolding readData servedAs
   read-proper deleted l d c =
-      looks (d .slot) _ _ c (tt, (omega arith, tt)) (λ y q. served (readAt y (headOf (byte l 1)) (d .cylinder) (idOf l) (byte l 6)))
+      looks (d .slot) _ _ c (tt, (omega arith, tt)) (λ y q. served (matchAt y (headOf (byte l 1)) (d .cylinder) (idOf l)) (readAt y (headOf (byte l 1)) (d .cylinder) (idOf l) (byte l 6)))
     where
-      fits : (v : Bool) (bytes reply : List ℕ) → leb (length bytes) (s .transfer) ≡ v → length reply ≤ 7 → Proper (need v NoTransferRoom (does [] (Serve bytes reply)))
-      fits true bytes reply e g = (tt, ((leb-true (length bytes) (s .transfer) e, g), tt))
-      fits false bytes reply e g = tt
+      fits : (v : Bool) (m : Match) (bytes reply : List ℕ) → leb (length bytes) (s .transfer) ≡ v → length reply ≤ 7 → Proper (need v NoTransferRoom (tells (serves m) [] (Serve bytes reply)))
+      fits true m bytes reply e g = (tt, ((leb-true (length bytes) (s .transfer) e, g), tt))
+      fits false m bytes reply e g = tt
 
-      served : (ss : List Sector) → Proper (servedAs s deleted l ss)
-      served [] = (tt, (unfold missing in omega arith, tt))
-      served (z ∷ ss) = fits (leb (length (contents (z ∷ ss))) (s .transfer)) (contents (z ∷ ss)) _ refl (unfold readReply in omega arith)
+      served : (m : Match) (ss : List Sector) → Proper (servedAs s deleted l m ss)
+      served m [] = (tt, (unfold missing in omega arith, tt))
+      served m (z ∷ ss) = fits (leb (length (contents (z ∷ ss))) (s .transfer)) m (contents (z ∷ ss)) _ refl (unfold readReply in omega arith)
 
   write-proper : (c1 : ℕ) (id : SectorId) (d : Drives) → Clean Bad (d .first .slot) → Proper (writeData c1 id (named c1 d))
   unfolding writeData startAt
   write-proper c1 id d c =
       looks (named c1 d .slot) _ _ (named-clean c1 d c) (tt, (omega arith, tt))
-      (λ y q. by (named-fitted c1 d y q) (sectorAt y (headOf c1) (named c1 d .cylinder) id))
+      (λ y q. by (named-fitted c1 d y q) (matchAt y (headOf c1) (named c1 d .cylinder) id) (sectorAt y (headOf c1) (named c1 d .cylinder) id))
     where
-      by : fitted c1 ≡ true → (z : Found Sector) → Proper (startAt c1 id z)
-      by f nothing = (tt, (unfold missing in omega arith, tt))
-      by f (found k z) = ((f, tt), (tt, tt))
+      by : fitted c1 ≡ true → (m : Match) (z : Found Sector) → Proper (startAt c1 id m z)
+      by f m nothing = (tt, (unfold missing in omega arith, tt))
+      by f m (found k z) = ((f, tt), (tt, tt))
 
   read-id-proper : (c1 index : ℕ) (d : Named) → Clean Bad (d .slot) → Proper (readId c1 index d)
   unfolding readId idGiven
@@ -164,13 +165,13 @@ module _ (Bad : Type 0) (s : Setting) where
       (λ y q. fits (setTrack (headOf (byte l 1)) (d .cylinder) (formatOf l (d .cylinder)) y))
     where
       all : (p q v : Bool) (y : Disk) → leb (byteCount y) (s .room) ≡ v
-          → Proper (after (need p TooManyTracks (need q TooManySectors (need v NoRoom (good y)))) (λ z. puts [] z (seven (u (byte l 1)) 0 0 (record { c = 0; h = 0; r = 0; n = byte l 2 }))))
+          → Proper (after (need p TooManyTracks (need q TooManySectors (need v NoRoom (good y)))) (λ z. puts silent [] z (seven (u (byte l 1)) 0 0 (record { c = 0; h = 0; r = 0; n = byte l 2 }))))
       all false q v y e = tt
       all true false v y e = tt
       all true true false y e = tt
       all true true true y e = (tt, (omega arith, leb-true (byteCount y) (s .room) e))
 
-      fits : (y : Disk) → Proper (after (fitting (s .room) y) (λ z. puts [] z (seven (u (byte l 1)) 0 0 (record { c = 0; h = 0; r = 0; n = byte l 2 }))))
+      fits : (y : Disk) → Proper (after (fitting (s .room) y) (λ z. puts silent [] z (seven (u (byte l 1)) 0 0 (record { c = 0; h = 0; r = 0; n = byte l 2 }))))
       fits y = all (leb (length y) mostTracks) (leb (sectorCount y) mostSectors) (leb (byteCount y) (s .room)) y refl
 
   pub obeyed-proper : (k : Command) (l : List ℕ) (d : Drives) (index : ℕ) → Clean Bad (d .first .slot) → Proper (obeyed s k l d index)
@@ -198,19 +199,20 @@ module _ (Bad : Type 0) (s : Setting) where
   unfolding written saveAt writeReply
   written-ends w d c = go (named (w .c1) d .slot) (named-clean (w .c1) d c)
     where
-      fits : (v : Bool) (new : Disk) → leb (byteCount new) (s .room) ≡ v → Ends (need v NoRoom (puts (Finish ∷ []) new (writeReply w)))
-      fits true new e = (refl, (omega arith, leb-true (byteCount new) (s .room) e))
-      fits false new e = tt
+      fits : (v : Bool) (m : Match) (new : Disk) → leb (byteCount new) (s .room) ≡ v → Ends (need v NoRoom (puts (serves m) (Finish ∷ []) new (writeReply w)))
+      fits true m new e = (refl, (omega arith, leb-true (byteCount new) (s .room) e))
+      fits false m new e = tt
 
-      by : (new : Disk) (z : Found Sector) → Ends (saveAt s w new z)
-      by new nothing = (refl, (omega arith, tt))
-      by new (found k z) = fits (leb (byteCount new) (s .room)) new refl
+      by : (m : Match) (new : Disk) (z : Found Sector) → Ends (saveAt s w m new z)
+      by m new nothing = (refl, (omega arith, tt))
+      by m new (found k z) = fits (leb (byteCount new) (s .room)) m new refl
 
       go : (slot : Slot) → Clean Bad slot → Ends (whenReady slot (does (Finish ∷ []) (Reply (writeReply w)))
-          (λ y. saveAt s w (saved (headOf (w .c1)) (named (w .c1) d .cylinder) (w .id) (w .held) y) (sectorAt y (headOf (w .c1)) (named (w .c1) d .cylinder) (w .id))))
+          (λ y. saveAt s w (matchAt y (headOf (w .c1)) (named (w .c1) d .cylinder) (w .id))
+          (saved (headOf (w .c1)) (named (w .c1) d .cylinder) (w .id) (w .held) y) (sectorAt y (headOf (w .c1)) (named (w .c1) d .cylinder) (w .id))))
       go Empty q = (refl, (omega arith, tt))
       go (Holds (refused why)) q = q
-      go (Holds (good y)) q = by _ (sectorAt y (headOf (w .c1)) (named (w .c1) d .cylinder) (w .id))
+      go (Holds (good y)) q = by _ _ (sectorAt y (headOf (w .c1)) (named (w .c1) d .cylinder) (w .id))
 
 -- ---- the lent buffers keep their rooms
 

@@ -3,6 +3,7 @@ pub mod Effects
 pub mod Follows
 pub mod Steps
 pub mod Any
+pub mod Before
 pub mod Together
 pub mod Gets
 pub mod Witness

@@ -22,7 +22,7 @@ use Rattle.codes.specs.declared.command.Command.{Command}
 use Rattle.codes.specs.Table.{commandOf, bytesFor}
 use Rattle.registers.specs.declared.regs.Regs.{Regs}
 use Rattle.registers.specs.declared.regs.Byte.the-variants as byte
-use Rattle.registers.specs.Boxes.{Setting, Inside, World, Add, Hold, Change, Clear, Finish, Effect, Sent, named, Holds}
+use Rattle.registers.specs.Boxes.{Setting, Inside, World, Add, Hold, Change, Clear, Finish, Effect, Sent, named, silent, Holds}
 use Rattle.registers.specs.View.{slotIf, settingOf, slotOf, drivesOf, writingOf, insideOf, frontOf, impossibleIn}
 use Rattle.registers.specs.Settle.{regsTaken, heldTaken, regsChanged, regsAll, regsResponded, regsOf}
 use Rattle.registers.specs.Calls.{statusRead, dataRead, motorSet, diskSet}
@@ -31,14 +31,15 @@ use Rattle.registers.proofs.Kept.{lawful-so, so-lawful, lawful-wider, kept-stat
 use Rattle.registers.proofs.Seen.{status-seen, read-seen, motor-seen, disk-seen, motor-told, track-told}
 use Rattle.commands.specs.Commands.{obeyed, written}
 use Rattle.commands.specs.Lent.{tableWith, dataWith, transferWith, Left, leftOf, Sees}
-use Rattle.sending.specs.Machine.{sends, clearing, commandIf, commandByte, dataIf, dataByte, sent, done, writePort}
+use Rattle.sending.specs.Machine.{sends, clearing, commandIf, commandByte, dataIf, dataByte, sent, done, writePort, reportOf}
 use Rattle.sending.specs.Calls.{dataWrite}
 use Rattle.sending.proofs.Sends.{all-first, all-length, sent-right, sent-data, sent-command}
 use Rattle.sending.proofs.Seen.{write-seen, disk-told}
 use Rattle.floppy.specs.Calls.{wroteAs}
 use Rattle.saves.specs.Events.{Question, motorOn?, whichTrack?, diskIn?, Event, poll, read, send, ask, switch, swap, widen, Answer, showed, gave, took, stood, denied, Next}
-use Rattle.saves.specs.Stages.{Stage, sentOn, answerTo, acted, Unbroken, PutsUnbroken}
+use Rattle.saves.specs.Stages.{Stage, answerTo, acted, Unbroken, PutsUnbroken}
 use Rattle.saves.specs.Words.{inDrive}
+use Rattle.saves.proofs.Feeding.{byteOn}
 use Rattle.saves.proofs.Unbrokens.{acted-unbroken}
 use Rattle.runs.specs.Hosts.{Host, withFloppy, withStore, withMore, byteSaid, flagSaid, doneSaid, ifSwapped, afterWrote, askedIn, called, seen, lent, stageOf, Sound, Agrees}
 use Rattle.runs.proofs.Effects.{MayRefuse, Clean, Breaks, store-clean, Fits, Proper, obeyed-proper, Ends, written-ends, transfer-kept, room-kept}
@@ -220,7 +221,7 @@ module _ (k : Host) (s : Sound k) where
   swap-agrees present t b =
       let d = disk-seen R H (k .table) (k .bytes) (k .transfer) (s .possible) (s .nine) (s .seven) present t b in
       let w = sound-of (withStore t b (With (diskSet present R .regs))) (s .held) (disk-lawful present) in (
-        (λ i. record { answer = took; then = record { setting = settingOf b (k .transfer); world = sym (d .1) i } })
+        (λ i. record { answer = took silent; then = record { setting = settingOf b (k .transfer); world = sym (d .1) i } })
             ∙ (λ i. record { answer = doneSaid (sym (d .0) i); then = stageOf (swapped present t b (sym (d .0) i)) }),
         subst (λ (a : Done). Sound (swapped present t b a)) (sym (d .0)) w,
       )
@@ -246,7 +247,7 @@ module _ (k : Host) (s : Sound k) where
   unfolding acted called
   widen-agrees y = (
     λ i. record {
-      answer = took;
+      answer = took silent;
       then = record { setting = record { room = roomOf (k .bytes); transfer = sym (wider y) i }; world = record { inside = seen k .inside; front = same-front y i } };
     },
     sound-of (withMore y k) (s .held) (lawful-wider R N (transferRoom (k .transfer ++ y)) (no-smaller y) lawful),
@@ -283,7 +284,7 @@ module _ (k : Host) (s : Sound k) where
     port-as y e = ap (λ (z : Result Sent). after z (λ v. good (done (seen k) v))) e
 
     abbrev SeesAs : Left → Result World → Type 0
-    SeesAs l v = Sees R H (k .table) (k .bytes) (k .transfer) l v
+    SeesAs l v = Sees R H (k .table) (k .bytes) (k .transfer) l (reportOf (lent k) (seen k) b) v
 
     then-seen : (y : Sent) → sent (lent k) I b ≡ good y → seen (Then y) ≡ done (seen k) y
     unfolding leftOf regsOf
@@ -313,32 +314,30 @@ module _ (k : Host) (s : Sound k) where
     CalledAs l = afterWrote (wroteAs l)
 
     send-go : (y : Result Sent) → sent (lent k) I b ≡ y → KeepsAs y
-        → (sentOn (stageOf k) (after y (λ v. good (done (seen k) v))) ≡ record { answer = CalledAs (LeftAs y) .answer; then = stageOf (CalledAs (LeftAs y) .then) }) × Sound (CalledAs (LeftAs y) .then)
+        → (byteOn (stageOf k) y ≡ record { answer = CalledAs (LeftAs y) .answer; then = stageOf (CalledAs (LeftAs y) .then) }) × Sound (CalledAs (LeftAs y) .then)
     unfolding leftOf regsOf
     send-go (refused why) e q = (refl, s)
-    send-go (good y) e q = (λ i. record { answer = took; then = record { setting = sym (then-lent y q) i; world = sym (then-seen y e) i } }, then-sound y q)
+    send-go (good y) e q = (λ i. record { answer = took (y .effect .report); then = record { setting = sym (then-lent y q) i; world = sym (then-seen y e) i } }, then-sound y q)
 
     send-agrees : Agrees k (send b)
-    unfolding acted called
+    unfolding acted called writePort reportOf
     send-agrees =
         let y : Result Sent = sent (lent k) I b in
         let z = send-go y refl (sent-keeps R b H (k .table) (k .bytes) (k .transfer) (s .possible) (s .nine) (s .seven) small (s .held)) in (
-          ap (sentOn (stageOf k)) (port-as y refl) ∙ z .0
-              ∙ ap (λ (l : Left). record { answer = CalledAs l .answer; then = stageOf (CalledAs l .then) }) (sym (write-as y refl)),
+          z .0 ∙ ap (λ (l : Left). record { answer = CalledAs l .answer; then = stageOf (CalledAs l .then) }) (sym (write-as y refl)),
           subst (λ (l : Left). Sound (CalledAs l .then)) (sym (write-as y refl)) (z .1),
         )
 
     -- a byte that is refused is refused with nothing else
-    sent-refused : (y : Result Sent) → KeepsAs y → (why : Refusal) → sentOn (stageOf k) (after y (λ v. good (done (seen k) v))) .answer ≡ denied why → May why
+    sent-refused : (y : Result Sent) → KeepsAs y → (why : Refusal) → byteOn (stageOf k) y .answer ≡ denied why → May why
     sent-refused (refused z) q why e = let p : z ≡ why = cc in subst May p q
     sent-refused (good y) q why e = never (cc)
 
     send-refused : (why : Refusal) → acted (send b) (stageOf k) .answer ≡ denied why → May why
-    unfolding acted
+    unfolding acted writePort reportOf
     send-refused why e =
         let y : Result Sent = sent (lent k) I b in
-        sent-refused y (sent-keeps R b H (k .table) (k .bytes) (k .transfer) (s .possible) (s .nine) (s .seven) small (s .held)) why
-        (sym (ap (λ (z : Result World). sentOn (stageOf k) z .answer) (port-as y refl)) ∙ e)
+        sent-refused y (sent-keeps R b H (k .table) (k .bytes) (k .transfer) (s .possible) (s .nine) (s .seven) small (s .held)) why e
 
   acted-refused : (e : Event) (why : Refusal) → acted e (stageOf k) .answer ≡ denied why → May why
   unfolding acted answerTo

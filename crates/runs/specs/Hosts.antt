@@ -18,7 +18,7 @@ use Rattle.registers.specs.declared.regs.Byte.the-variants as byte
 use Rattle.registers.specs.declared.regs.Flag.{Flag}
 use Rattle.registers.specs.declared.regs.Flag.the-variants as flag
 use Rattle.registers.specs.declared.regs.Regs.{Regs}
-use Rattle.registers.specs.Boxes.{Setting, World}
+use Rattle.registers.specs.Boxes.{Setting, World, silent}
 use Rattle.registers.specs.View.{settingOf, worldOf, impossibleIn}
 use Rattle.registers.specs.Calls.{motorSet, diskSet, motorOf, currentTrack, diskIn}
 use Rattle.floppy.specs.declared.Floppy.{Floppy}
@@ -48,7 +48,7 @@ withMore y k = record { floppy = k .floppy; table = k .table; bytes = k .bytes; 
 
 -- ---- Answers: what a call by value answers, as one of those of `Events`
 
--- a byte, yes or no, that it was done, that a byte was taken; or the refusal
+-- a byte, yes or no, that it was done, that a byte was taken and what is told; or the refusal
 abbrev pub byteSaid : (ℕ → Answer) → Byte → Answer
 byteSaid f (byte.Of n) = f n
 byteSaid f (byte.Refused why) = denied why
@@ -58,11 +58,11 @@ flagSaid (flag.Of f) = said f
 flagSaid (flag.Refused why) = denied why
 
 abbrev pub doneSaid : Done → Answer
-doneSaid done.Good = took
+doneSaid done.Good = took silent
 doneSaid (done.Refused why) = denied why
 
 abbrev pub receiptSaid : Receipt → Answer
-receiptSaid receipt.Good = took
+receiptSaid (receipt.Good x) = took x
 receiptSaid (receipt.Refused why) = denied why
 
 -- ---- Calls
@@ -100,7 +100,7 @@ called (send b) k = afterWrote (writeCall (k .floppy) b (k .table) (k .bytes) (k
 called (ask q) k = record { answer = askedIn q (k .floppy .regs); then = k }
 called (switch on) k = afterChanged (changedAs (motorSet on (k .floppy .regs)) (k .floppy .held)) k
 called (swap present t b) k = afterSwapped (changedAs (diskSet present (k .floppy .regs)) (k .floppy .held)) t b k
-called (widen y) k = record { answer = took; then = withMore y k }
+called (widen y) k = record { answer = took silent; then = withMore y k }
 
 -- ---- What a host has, seen
 

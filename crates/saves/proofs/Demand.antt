@@ -14,10 +14,10 @@ use Rattle.fields.specs.declared.refusal.Refusal.the-variants.{NoRoom}
 use Rattle.fields.proofs.Sizes.{size-pos}
 use Rattle.fields.proofs.Tests.{need-good}
 use Rattle.store.specs.Find.{found}
-use Rattle.store.specs.Search.{sectorAt}
+use Rattle.store.specs.Search.{sectorAt, matchAt}
 use Rattle.disk.specs.Change.{withContent, saved}
 use Rattle.codes.specs.declared.command.Command.the-variants.{SeekTo, WriteData}
-use Rattle.registers.specs.Boxes.{Setting, Holds, Inside, World, named, Finish, changed, allChanged, putIn}
+use Rattle.registers.specs.Boxes.{Setting, Holds, Inside, World, named, serves, Finish, changed, allChanged, putIn}
 use Rattle.codes.specs.Table.{commandOf, commandBy, rows}
 use Rattle.codes.specs.Second.{driveOf, headOf}
 use Rattle.commands.specs.Commands.{puts, seekIf, startAt, writeData, writeReply, saveAt, written, obeyed}
@@ -58,7 +58,7 @@ module _ (s : Setting) (m : Bool) (x : ℕ) (d : Disk) where
   written-is c c1 id bytes k z f g = rw (drive-0 c1 c d f, g) (go (leb (byteCount (saved (headOf c1) c id bytes d)) (s .room)))
     where
       go : (v : Bool)
-          → after (need v NoRoom (puts (Finish ∷ []) (saved (headOf c1) c id bytes d) (writeReply (record { c1 = c1; id = id; held = bytes }))))
+          → after (need v NoRoom (puts (serves (matchAt d (headOf c1) c id)) (Finish ∷ []) (saved (headOf c1) c id bytes d) (writeReply (record { c1 = c1; id = id; held = bytes }))))
           (λ e. good (effected e (writing m c x d c1 id bytes)))
           ≡ need v NoRoom (good (partly m c x (saved (headOf c1) c id bytes d) []))
       go true = refl

@@ -16,7 +16,7 @@ use Rattle.registers.specs.Boxes.{Setting, Holds, Drives, Inside, World, Add, H
 use Rattle.codes.specs.Table.{commandOf, bytesFor}
 use Rattle.registers.specs.Ports.{afterStatus, afterRead}
 use Rattle.commands.specs.Commands.{byte, obeyed, written}
-use Rattle.sending.specs.Machine.{sends, clearing, commandIf, commandByte, dataIf, dataByte, byteFor, sent, done, writePort}
+use Rattle.sending.specs.Machine.{sends, clearing, commandIf, commandByte, dataIf, dataByte, byteFor, sent, done, writePort, reported, reportOf}
 use Rattle.fields.proofs.Tests.{never}
 use Rattle.saves.specs.Events.{Question, motorOn?, whichTrack?, diskIn?, Event, poll, read, send, ask, switch, swap, widen, Answer, took, Next, run, granted}
 use Rattle.saves.specs.Stages.{Stage, withWorld, sentOn, answerTo, acted}
@@ -46,11 +46,15 @@ pub record Fed (es : List Event) (g : Stage) (l : List ℕ) : Type 0 where
   pub inside : fed (g .setting) l (g .world .inside) ≡ good (run acted es g .end .world .inside)
   pub rooms : run acted es g .end .setting ≡ g .setting
 
+-- a byte sent, by all that it does
+abbrev pub byteOn : Stage → Result Sent → Next Answer Stage
+byteOn g x = sentOn g (reported x) (after x (λ v. good (done (g .world) v)))
+
 -- a byte sent that is taken, on the machine and inside
 module _ (b : ℕ) (g : Stage) (y : Sent) (q : sent (g .setting) (g .world .inside) b ≡ good y) where
-  taken-is : acted (send b) g ≡ record { answer = took; then = withWorld (done (g .world) y) g }
-  unfolding acted writePort
-  taken-is = ap (λ (z : Result Sent). sentOn g (after z (λ v. good (done (g .world) v)))) q
+  taken-is : acted (send b) g ≡ record { answer = took (y .effect .report); then = withWorld (done (g .world) y) g }
+  unfolding acted writePort reportOf
+  taken-is = ap (byteOn g) q
 
   end-is : (es : List Event) → run acted (send b ∷ es) g .end ≡ run acted es (withWorld (done (g .world) y) g) .end
   unfolding run
@@ -62,7 +66,7 @@ module _ (b : ℕ) (g : Stage) (y : Sent) (q : sent (g .setting) (g .world .insi
 
 -- the answer to a byte, and what follows
 abbrev AfterByte : List Event → Stage → Result Sent → List Answer
-AfterByte es g x = let y : Next Answer Stage = sentOn g (after x (λ v. good (done (g .world) v))) in y .answer ∷ run acted es (y .then) .answers
+AfterByte es g x = let y : Next Answer Stage = byteOn g x in y .answer ∷ run acted es (y .then) .answers
 
 sent-go : (b : ℕ) (es : List Event) (g : Stage) (l : List ℕ) → firstOf b (sentIn es) ≡ some l
     → ((h : Stage) (m : List ℕ) → sentIn es ≡ some m → granted (run acted es h .answers) ≡ true → Fed es h m)
@@ -87,7 +91,7 @@ asked-grants diskIn? w l = refl
 
 -- port reads and questions change nothing inside: what a sequence does there, its sent bytes do
 pub run-fed : (es : List Event) (g : Stage) (l : List ℕ) → sentIn es ≡ some l → granted (run acted es g .answers) ≡ true → Fed es g l
-unfolding run sentIn fed acted writePort afterStatus afterRead granted
+unfolding run sentIn fed acted writePort reportOf afterStatus afterRead granted
 run-fed [] g l e ok = let z : [] ≡ l = cc in record { inside = ap (λ (v : List ℕ). fed (g .setting) v (g .world .inside)) (sym z); rooms = refl }
 run-fed (poll ∷ es) g l e ok = let r = run-fed es (acted poll g .then) l e ok in record { inside = r .inside; rooms = r .rooms }
 run-fed (read ∷ es) g l e ok = let r = run-fed es (acted read g .then) l e ok in record { inside = r .inside; rooms = r .rooms }

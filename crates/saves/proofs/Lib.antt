@@ -6,3 +6,4 @@ pub mod Demand
 pub mod ReadBack
 pub mod Unbrokens
 pub mod Witness
+pub mod Thrice

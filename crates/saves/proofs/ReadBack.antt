@@ -14,23 +14,24 @@ use Rattle.fields.specs.declared.id.SectorId.{SectorId}
 use Rattle.fields.specs.declared.refusal.Refusal.the-variants.{NoTransferRoom}
 use Rattle.fields.proofs.Tests.{never}
 use Rattle.store.specs.Find.{Found, nothing, found, find}
-use Rattle.store.specs.Search.{isTrack, inTrack, sectorAt, joined, runFrom, readIn, readAt}
+use Rattle.store.specs.Search.{isTrack, inTrack, sectorAt, matchAt, joined, runFrom, readIn, readAt}
 use Rattle.store.specs.Store.{contents}
 use Rattle.disk.specs.Change.{withContent}
 use Rattle.disk.specs.Calls.{endOf}
 use Rattle.codes.specs.declared.command.Command.the-variants.{ReadData}
-use Rattle.registers.specs.Boxes.{Setting, Inside, Front, World, Add, Serve, Sent, responded}
+use Rattle.registers.specs.Boxes.{Setting, Inside, Front, World, Add, Serve, Sent, serves, responded}
+use Rattle.registers.specs.declared.regs.Report.{Report}
 use Rattle.codes.specs.Table.{commandOf}
 use Rattle.registers.specs.Ports.{polled, Poll, Stays, Counts, Drops, afterStatus, given, readFrom, portByte, afterRead}
 use Rattle.codes.specs.Second.{u, driveOf, headOf}
-use Rattle.commands.specs.Commands.{does, markOf, sizesOf, readReply, servedAs, readData, obeyed}
-use Rattle.sending.specs.Machine.{sends, clearing, commandIf, commandByte, byteFor, sent, done, writePort}
+use Rattle.commands.specs.Commands.{tells, markOf, sizesOf, readReply, servedAs, readData, obeyed}
+use Rattle.sending.specs.Machine.{sends, clearing, commandIf, commandByte, byteFor, sent, done, writePort, reportOf}
 use Rattle.saves.specs.Events.{Question, motorOn?, whichTrack?, diskIn?, Event, poll, read, send, ask, switch, swap, widen, Answer, Next, run, granted}
-use Rattle.saves.specs.Stages.{Stage, sentOn, answerTo, acted}
+use Rattle.saves.specs.Stages.{Stage, answerTo, acted}
 use Rattle.saves.specs.Words.{Ready, Save, bytesOf, addressOf, IsSave, savedBy, Sends, ReadsBack, readBytes, replyTo, LosesNone, dataReads, givenIn}
 use Rattle.saves.proofs.Finds.{mapFound}
 use Rattle.saves.proofs.Places.{save-found, save-only}
-use Rattle.saves.proofs.Feeding.{fed, run-fed, partly, part-fed}
+use Rattle.saves.proofs.Feeding.{fed, byteOn, run-fed, partly, part-fed}
 use Rattle.saves.proofs.Demand.{drive-0, saved-inside}
 
 -- ---- what is handed out
@@ -91,21 +92,21 @@ read-one (found n t) id eot k z e h =
     ap (λ (m : ℕ). runFrom id (t .sectors) (id .r) (suc m)) y ∙ (unfold runFrom in ap (λ (v : Found Sector). joined v []) e)
 
 -- the effect of the last byte, if it is not refused
-module _ (room : ℕ) (bytes reply : List ℕ) where
+module _ (room : ℕ) (told : Report) (bytes reply : List ℕ) where
   served : (v : Bool) (g : Stage) (b : ℕ)
-      → let y : Next Answer Stage = sentOn g (after (sends (Add b) (clearing (need v NoTransferRoom (does [] (Serve bytes reply))))) (λ x. good (done (g .world) x))) in
+      → let y : Next Answer Stage = byteOn g (sends (Add b) (clearing (need v NoTransferRoom (tells told [] (Serve bytes reply))))) in
       granted (y .answer ∷ []) ≡ true → (y .then .world .front .unread ≡ bytes) × (y .then .world .front .reply ≡ reply)
   unfolding done responded granted
   served true g b e = (refl, refl)
   served false g b e = never (cc)
 
-  serves : (v : Bool) (g : Stage) (b : ℕ)
-      → sent (g .setting) (g .world .inside) b ≡ sends (Add b) (clearing (need v NoTransferRoom (does [] (Serve bytes reply))))
+  serves-them : (v : Bool) (g : Stage) (b : ℕ)
+      → sent (g .setting) (g .world .inside) b ≡ sends (Add b) (clearing (need v NoTransferRoom (tells told [] (Serve bytes reply))))
       → granted (run acted (send b ∷ []) g .answers) ≡ true
       → (run acted (send b ∷ []) g .end .world .front .unread ≡ bytes) × (run acted (send b ∷ []) g .end .world .front .reply ≡ reply)
-  unfolding run acted writePort
-  serves v g b e ok =
-      subst (λ (x : Result Sent). let y : Next Answer Stage = sentOn g (after x (λ v. good (done (g .world) v))) in
+  unfolding run acted writePort reportOf
+  serves-them v g b e ok =
+      subst (λ (x : Result Sent). let y : Next Answer Stage = byteOn g x in
       granted (y .answer ∷ []) ≡ true → (y .then .world .front .unread ≡ bytes) × (y .then .world .front .reply ≡ reply))
       (sym e) (served v g b) ok
 
@@ -119,7 +120,7 @@ module _ (s : Setting) (m : Bool) (c x : ℕ) (new : Disk) (code c1 : ℕ) (id :
 
   last-sent : commandOf code ≡ ReadData → driveOf c1 ≡ 0 → readAt new (headOf c1) c id eot ≡ z ∷ []
       → sent s (partly m c x new (code ∷ c1 ∷ id .c ∷ id .h ∷ id .r ∷ id .n ∷ eot ∷ gap ∷ [])) dtl
-      ≡ sends (Add dtl) (clearing (need (leb (length (contents (z ∷ []))) (s .transfer)) NoTransferRoom (does [] (Serve (contents (z ∷ [])) Reply))))
+      ≡ sends (Add dtl) (clearing (need (leb (length (contents (z ∷ []))) (s .transfer)) NoTransferRoom (tells (serves (matchAt new (headOf c1) c id)) [] (Serve (contents (z ∷ [])) Reply))))
   unfolding sent byteFor commandByte commandIf obeyed readData servedAs
   last-sent e f g = rw (e, drive-0 c1 c new f, g)
 
@@ -182,7 +183,7 @@ read-back a d code c1 eot gap dtl g es fs gs ready save made back began last non
     let z : Sector = withContent (a .content) (save .sector) in
     let sent-is = ap (λ (j : Inside). sent (q .setting) j dtl) inside-is
     ∙ last-sent (q .setting) m (a .cylinder) x (savedBy a d) code c1 (a .id) eot gap dtl z (back .reads) (back .drive-0) (kept-read a d c1 eot save (back .same-head) (back .alone)) in
-    let front = serves (q .setting .transfer) (contents (z ∷ [])) _ (leb (length (contents (z ∷ []))) (q .setting .transfer)) q dtl sent-is (last .grants) in
+    let front = serves-them (q .setting .transfer) _ (contents (z ∷ [])) _ (leb (length (contents (z ∷ []))) (q .setting .transfer)) q dtl sent-is (last .grants) in
     handed gs (run acted (send dtl ∷ []) q .end) (a .content) (replyTo a c1 eot (save .sector))
     (front .0 ∙ kept-bytes a d c1 eot save)
     (front .1 ∙ last-reply (q .setting) m (a .cylinder) x (savedBy a d) code c1 (a .id) eot gap dtl z (kept-long a d c1 eot save))

@@ -6,9 +6,10 @@ use Rattle.fields.specs.Refusals.{Result, refused, good, after}
 use Rattle.fields.specs.Model.{Disk, Each}
 use Rattle.registers.specs.Boxes.{Slot, Inside, Taking, Add, Hold, Change, Clear, MoveTo, Turn, Start, Finish, Sent, taken, changed, allChanged, putIn}
 use Rattle.registers.specs.Ports.{afterStatus, afterRead, setMotor, changeDisk}
-use Rattle.sending.specs.Machine.{sent, done, writePort}
+use Rattle.sending.specs.Machine.{sent, done, writePort, reportOf}
 use Rattle.saves.specs.Events.{Event, poll, read, send, ask, switch, swap, widen, run}
-use Rattle.saves.specs.Stages.{Stage, sentOn, acted, Unbroken, PutsUnbroken}
+use Rattle.saves.specs.Stages.{Stage, acted, Unbroken, PutsUnbroken}
+use Rattle.saves.proofs.Feeding.{byteOn}
 use Rattle.saves.specs.Words.{inDrive}
 
 abbrev slotIn : Inside → Slot
@@ -40,7 +41,7 @@ unfolding putIn
 put-unbroken none i h = h
 put-unbroken (some d) i h = tt
 
-sent-unbroken : (g : Stage) (y : Result Sent) → Unbroken (inDrive (g .world)) → Unbroken (inDrive (sentOn g (after y (λ x. good (done (g .world) x))) .then .world))
+sent-unbroken : (g : Stage) (y : Result Sent) → Unbroken (inDrive (g .world)) → Unbroken (inDrive (byteOn g y .then .world))
 unfolding done
 sent-unbroken g (refused why) h = h
 sent-unbroken g (good y) h =
@@ -51,7 +52,7 @@ sent-unbroken g (good y) h =
 -- ---- any calls
 
 pub acted-unbroken : (e : Event) (g : Stage) → PutsUnbroken e → Unbroken (inDrive (g .world)) → Unbroken (inDrive (acted e g .then .world))
-unfolding acted PutsUnbroken afterStatus afterRead setMotor changeDisk writePort
+unfolding acted PutsUnbroken afterStatus afterRead setMotor changeDisk writePort reportOf
 acted-unbroken poll g q h = h
 acted-unbroken read g q h = h
 acted-unbroken (send b) g q h = sent-unbroken g (sent (g .setting) (g .world .inside) b) h

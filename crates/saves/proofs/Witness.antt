@@ -22,7 +22,7 @@ use Rattle.registers.specs.Boxes.{Holds, World, newWorld, named, taken, changed
 use Rattle.codes.specs.Table.{maskRows, rows, commandBy, commandOf}
 use Rattle.registers.specs.Ports.{afterRead, changeDisk}
 use Rattle.commands.specs.Commands.{seekIf, servedAs, readData, startAt, writeData, writeReply, saveAt, written, obeyed}
-use Rattle.sending.specs.Machine.{commandIf, commandByte, dataIf, dataByte, byteFor, sent, done, writePort}
+use Rattle.sending.specs.Machine.{commandIf, commandByte, dataIf, dataByte, byteFor, sent, done, writePort, reportOf}
 use Rattle.saves.specs.Events.{Event, read, send, Answer, run, granted}
 use Rattle.saves.specs.Stages.{Stage, acted}
 use Rattle.saves.specs.Words.{inDrive, Ready, Address, Save, bytesOf, addressOf, IsSave, savedBy, firstOf, sentIn, Sends, Only, ReadsBack, readBytes, replyTo, LosesNone, dataReads, givenIn}
@@ -96,7 +96,7 @@ pub record Grants : Type 0 where
 
 -- nothing is refused
 pub grants : Grants
-unfolding granted run acted sendAll bytesOf example again other changeDisk newWorld named taken changed allChanged putIn responded maskRows rows commandBy commandOf seekIf startAt writeData writeReply saveAt written obeyed commandIf commandByte dataIf dataByte byteFor sent done writePort fresh freshFrom formatted idsFrom blanks sizeOf sectorAt findFrom change saved total readBytes readAt runFrom contents servedAs readData
+unfolding granted run acted sendAll bytesOf example again other changeDisk newWorld named taken changed allChanged putIn responded maskRows rows commandBy commandOf seekIf startAt writeData writeReply saveAt written obeyed commandIf commandByte dataIf dataByte byteFor sent done writePort reportOf fresh freshFrom formatted idsFrom blanks sizeOf sectorAt findFrom change saved total readBytes readAt runFrom contents servedAs readData
 grants = record { first = refl; second = refl; alone = refl; behind = refl; other = refl; before = refl; begun = refl; last = refl }
 
 -- ---- they are saves, and the Read Data reads the first one back

@@ -3,6 +3,7 @@ use Prim.Native.Nat.{ℕ}
 use mathlib.Core.Bool.{Bool, true, false}
 use mathlib.Core.List.{List, [], _∷_}
 use Rattle.fields.specs.declared.refusal.Refusal.{Refusal}
+use Rattle.registers.specs.declared.regs.Report.{Report}
 
 -- ---- One call
 
@@ -23,11 +24,11 @@ pub data Event : Type 0 where
   swap : Bool → List ℕ → List ℕ → Event
   widen : List ℕ → Event
 
--- what a call answers: the status, the byte, that it was done, yes or no, the cylinder, or a refusal
+-- what a call answers: the status, the byte, that it was done and what the host is told beside that, yes or no, the cylinder, or a refusal
 pub data Answer : Type 0 where
   showed : ℕ → Answer
   gave : ℕ → Answer
-  took : Answer
+  took : Report → Answer
   said : Bool → Answer
   stood : ℕ → Answer
   denied : Refusal → Answer
@@ -58,7 +59,7 @@ unfoldable pub granted : List Answer → Bool
 granted [] = true
 granted (showed n ∷ l) = granted l
 granted (gave n ∷ l) = granted l
-granted (took ∷ l) = granted l
+granted (took x ∷ l) = granted l
 granted (said f ∷ l) = granted l
 granted (stood c ∷ l) = granted l
 granted (denied why ∷ l) = false

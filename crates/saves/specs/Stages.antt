@@ -5,11 +5,12 @@ use lib.ListN.{length}
 use Rattle.fields.specs.Capacities.{mostTransfer}
 use Rattle.fields.specs.Refusals.{Result, refused, good}
 use Rattle.store.specs.Store.{roomOf, diskOf}
-use Rattle.registers.specs.Boxes.{Setting, Slot, Empty, Holds, World, newWorld}
+use Rattle.registers.specs.Boxes.{Setting, Slot, Empty, Holds, World, newWorld, silent}
+use Rattle.registers.specs.declared.regs.Report.{Report}
 use Rattle.registers.specs.Ports.{status, afterStatus, portByte, afterRead, setMotor, changeDisk}
 use Rattle.registers.specs.View.{slotIf}
 use Rattle.commands.specs.Commands.{ready}
-use Rattle.sending.specs.Machine.{writePort}
+use Rattle.sending.specs.Machine.{writePort, reportOf}
 use Rattle.saves.specs.Events.{Question, motorOn?, whichTrack?, diskIn?, Event, poll, read, send, ask, switch, swap, widen}
 use Rattle.saves.specs.Events.{Answer, showed, gave, took, said, stood, denied, Next}
 
@@ -26,10 +27,10 @@ newStage s = record { setting = s; world = newWorld }
 abbrev pub withWorld : World → Stage → Stage
 withWorld w g = record { setting = g .setting; world = w }
 
--- a byte sent was taken, or refused, which leaves all as it was
-abbrev pub sentOn : Stage → Result World → Next Answer Stage
-sentOn g (refused why) = record { answer = denied why; then = g }
-sentOn g (good w) = record { answer = took; then = withWorld w g }
+-- a byte sent was taken, and something is told, or refused, which leaves all as it was
+abbrev pub sentOn : Stage → Report → Result World → Next Answer Stage
+sentOn g told (refused why) = record { answer = denied why; then = g }
+sentOn g told (good w) = record { answer = took told; then = withWorld w g }
 
 -- what the boxes tell
 unfoldable pub answerTo : Question → World → Answer
@@ -48,12 +49,12 @@ widened y s = record { room = s .room; transfer = min (s .transfer + length y) m
 unfoldable pub acted : Event → Stage → Next Answer Stage
 acted poll g = record { answer = showed (status (g .world)); then = withWorld (afterStatus (g .world)) g }
 acted read g = record { answer = gave (portByte (g .world)); then = withWorld (afterRead (g .world)) g }
-acted (send b) g = sentOn g (writePort (g .setting) (g .world) b)
+acted (send b) g = sentOn g (reportOf (g .setting) (g .world) b) (writePort (g .setting) (g .world) b)
 acted (ask q) g = record { answer = answerTo q (g .world); then = g }
-acted (switch on) g = record { answer = took; then = withWorld (setMotor on (g .world)) g }
+acted (switch on) g = record { answer = took silent; then = withWorld (setMotor on (g .world)) g }
 acted (swap present t b) g =
-    record { answer = took; then = record { setting = roomed b (g .setting); world = changeDisk (slotIf present (diskOf t b)) (g .world) } }
-acted (widen y) g = record { answer = took; then = record { setting = widened y (g .setting); world = g .world } }
+    record { answer = took silent; then = record { setting = roomed b (g .setting); world = changeDisk (slotIf present (diskOf t b)) (g .world) } }
+acted (widen y) g = record { answer = took silent; then = record { setting = widened y (g .setting); world = g .world } }
 
 -- no store that breaks the layout is in the drive
 abbrev pub Unbroken : Slot → Type 0

@@ -165,7 +165,7 @@ unfoldable pub givenIn : List Answer → List ℕ
 givenIn [] = []
 givenIn (showed n ∷ l) = givenIn l
 givenIn (gave n ∷ l) = n ∷ givenIn l
-givenIn (took ∷ l) = givenIn l
+givenIn (took x ∷ l) = givenIn l
 givenIn (said f ∷ l) = givenIn l
 givenIn (stood c ∷ l) = givenIn l
 givenIn (denied why ∷ l) = givenIn l

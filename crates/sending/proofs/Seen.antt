@@ -19,7 +19,8 @@ use Rattle.fields.specs.declared.refusal.Refusal.the-variants.{BadController, N
 use Rattle.fields.proofs.Sizes.{size-most}
 use Rattle.fields.proofs.Tests.{never}
 use Rattle.store.specs.Find.{Found, nothing, found}
-use Rattle.store.specs.Search.{sectorAt}
+use Rattle.store.specs.Search.{sectorAt, matchAt}
+use Rattle.store.specs.declared.answer.Match.{Match}
 use Rattle.store.specs.Store.{roomOf, tableOf, dataOf, diskOf}
 use Rattle.store.specs.Calls.{fitting}
 use Rattle.registers.specs.declared.regs.Receipt.the-variants as receipt
@@ -31,7 +32,7 @@ use Rattle.registers.specs.declared.regs.Regs.{Regs}
 use Rattle.registers.specs.declared.regs.Pending.{Pending}
 use Rattle.registers.specs.declared.regs.Seek.{Seek}
 use Rattle.registers.specs.declared.regs.Seek.the-variants.{Idle, Running, Done}
-use Rattle.registers.specs.Boxes.{Setting, Slot, Holds, Drives, Writing, Inside, fitted, namedIf, named, seven, withCommand, withWrite, withSlot, holdingIn}
+use Rattle.registers.specs.Boxes.{Setting, Slot, Holds, Drives, Writing, Inside, fitted, namedIf, named, seven, silent, serves, withCommand, withWrite, withSlot, holdingIn}
 use Rattle.registers.specs.Boxes.{Taking, Add, Hold, Change, Clear, MoveTo, Turn, Start, Finish, Response, Stay, Reply, ReplyIfNone, Seeking, Interrupt, Serve, Effect, Sent}
 use Rattle.registers.specs.Boxes.{taken, changed, allChanged, putIn, withReply, ifNone, interrupted, responded}
 use Rattle.codes.specs.Table.{commandOf, bytesFor}
@@ -42,7 +43,7 @@ use Rattle.registers.specs.Settle.{declined, replied, regsTaken, heldTaken, reg
 use Rattle.registers.proofs.Numbers.{possible, possible-in, count-few, taken-few}
 use Rattle.codes.specs.Second.{u, headOf}
 use Rattle.commands.specs.Commands.{byte, idOf, ready, whenReady, puts, seekTo, readData, writeData, readId, writeReply, saveAt, written, formatOf, formatTrack, obeyed}
-use Rattle.sending.specs.Machine.{sends, commandIf, commandByte, dataIf, dataByte, sent, done, writePort}
+use Rattle.sending.specs.Machine.{sends, commandIf, commandByte, dataIf, dataByte, sent, done, writePort, reported, reportOf}
 use Rattle.commands.specs.Lent.{tableWith, dataWith, transferWith, left, leftOf, Sees}
 use Rattle.sending.specs.Calls.{dataWrite}
 use Rattle.commands.proofs.Runs.{Unput, quiet-seek, quiet-id, quiet-write, unput-read}
@@ -231,25 +232,25 @@ module _ (r : Regs) (t d : List ℕ) where
       Set y = let c : ℕ = namedIn (byte l 1) r t d .cylinder in setTrack (headOf (byte l 1)) c (formatOf l c) y
 
       go : (y : Disk) → r .drive .disk ≡ true → diskOf t d ≡ good y → (new : Result Disk) → fitting (roomOf d) (Set y) ≡ new
-          → LaysE (after new (λ z. puts [] z (seven (u (byte l 1)) 0 0 (record { c = 0; h = 0; r = 0; n = byte l 2 }))))
+          → LaysE (after new (λ z. puts silent [] z (seven (u (byte l 1)) 0 0 (record { c = 0; h = 0; r = 0; n = byte l 2 }))))
       go y h w (refused why) e = tt
       go y h w (good z) e = (h, format-accepted t d y w (Set y) z e)
 
   written-lays : (x : List ℕ) (w : Writing) → LaysE (written (settingOf d x) w (namedIn (w .c1) r t d))
   unfolding written saveAt
-  written-lays x w = named-lays (w .c1) _ _ tt (λ y h e. go y h e (sectorAt y (headOf (w .c1)) (namedIn (w .c1) r t d .cylinder) (w .id)))
+  written-lays x w = named-lays (w .c1) _ _ tt (λ y h e. go y h e (matchAt y (headOf (w .c1)) (namedIn (w .c1) r t d .cylinder) (w .id)) (sectorAt y (headOf (w .c1)) (namedIn (w .c1) r t d .cylinder) (w .id)))
     where
       New : Disk → Disk
       New y = saved (headOf (w .c1)) (namedIn (w .c1) r t d .cylinder) (w .id) (w .held) y
 
-      put : (v : Bool) (y : Disk) → r .drive .disk ≡ true → diskOf t d ≡ good y → leb (byteCount (New y)) (roomOf d) ≡ v
-          → LaysE (need v NoRoom (puts (Finish ∷ []) (New y) (writeReply w)))
-      put true y h e q = (h, save-accepted t d y e (headOf (w .c1)) (namedIn (w .c1) r t d .cylinder) (w .id) (w .held) (leb-true _ _ q))
-      put false y h e q = tt
+      put : (v : Bool) (m : Match) (y : Disk) → r .drive .disk ≡ true → diskOf t d ≡ good y → leb (byteCount (New y)) (roomOf d) ≡ v
+          → LaysE (need v NoRoom (puts (serves m) (Finish ∷ []) (New y) (writeReply w)))
+      put true m y h e q = (h, save-accepted t d y e (headOf (w .c1)) (namedIn (w .c1) r t d .cylinder) (w .id) (w .held) (leb-true _ _ q))
+      put false m y h e q = tt
 
-      go : (y : Disk) → r .drive .disk ≡ true → diskOf t d ≡ good y → (s : Found Sector) → LaysE (saveAt (settingOf d x) w (New y) s)
-      go y h e nothing = tt
-      go y h e (found k s) = put (leb (byteCount (New y)) (roomOf d)) y h e refl
+      go : (y : Disk) → r .drive .disk ≡ true → diskOf t d ≡ good y → (m : Match) (s : Found Sector) → LaysE (saveAt (settingOf d x) w m (New y) s)
+      go y h e m nothing = tt
+      go y h e m (found k s) = put (leb (byteCount (New y)) (roomOf d)) m y h e refl
 
   obeyed-lays : (x : List ℕ) (k : Command) (l : List ℕ) → LaysE (obeyed (settingOf d x) k l (drivesOf r t d) (r .index))
   unfolding obeyed
@@ -291,7 +292,7 @@ unfolding dataByte
 data-takes s b w d = sends-takes (Hold b) (dataIf (eqb (length (w .held)) (sizeOf (w .id .n))) s w d)
 
 module _ (r : Regs) (b : ℕ) (h t d x : List ℕ) (ok : impossibleIn x r ≡ false) (nine : length (r .command) ≡ 9) (seven : length (r .reply) ≡ 7) (held : length h ≡ mostHeld) where
-  seen-byte : (e : Result Sent) (k : Taking) → Fits k r h → Takes k e → LaysS r t d e → Sees r h t d x (leftOf e r h t d x) (after e (λ s. good (done (worldOf r h t d x) s)))
+  seen-byte : (e : Result Sent) (k : Taking) → Fits k r h → Takes k e → LaysS r t d e → Sees r h t d x (leftOf e r h t d x) (reported e) (after e (λ s. good (done (worldOf r h t d x) s)))
   unfolding leftOf regsOf done insideOf
   seen-byte (refused why) k g q l = refl
   seen-byte (good s) k g q l =
@@ -313,8 +314,8 @@ module _ (r : Regs) (b : ℕ) (h t d x : List ℕ) (ok : impossibleIn x r ≡ fa
       = seen-response sh r₂ x (same .few (possible r (possible-in x r ok) .fill-in)) (same .long seven) ∙ ap (responded sh) (same .front x) in
       (refl, λ n. record { inside = (j ∙ sym m ∙ ap (putIn (s .effect .put)) i) n; front = f n })
 
-  seen-sent : (f : Bool) → r .write .on ≡ f → Sees r h t d x (leftOf (sent (settingOf d x) (insideOf r h (slotOf r t d)) b) r h t d x) (writePort (settingOf d x) (worldOf r h t d x) b)
-  unfolding writePort
+  seen-sent : (f : Bool) → r .write .on ≡ f → Sees r h t d x (leftOf (sent (settingOf d x) (insideOf r h (slotOf r t d)) b) r h t d x) (reportOf (settingOf d x) (worldOf r h t d x) b) (writePort (settingOf d x) (worldOf r h t d x) b)
+  unfolding writePort reportOf
   seen-sent true e =
       let g : r .write .taken < length h = omega (arith, taken-few (r .write) (possible r (possible-in x r ok) .write-in) e, size-most (r .write .id .n)) in
       seen-byte (sent (settingOf d x) (insideOf r h (slotOf r t d)) b) (Hold b) g (subst (Takes (Hold b)) (sent-data r b h t d x e) (data-takes _ b _ _)) (sent-lays r t d x h b)
@@ -322,11 +323,11 @@ module _ (r : Regs) (b : ℕ) (h t d x : List ℕ) (ok : impossibleIn x r ≡ fa
       let g : r .count < length (r .command) = omega (arith, count-few r (possible-in x r ok)) in
       seen-byte (sent (settingOf d x) (insideOf r h (slotOf r t d)) b) (Add b) g (subst (Takes (Add b)) (sent-command r b h t d x e) (command-takes _ b _ _ _)) (sent-lays r t d x h b)
 
-  -- a byte sent leaves what the machine's step says of the boxes seen
-  pub write-seen : Sees r h t d x (dataWrite r b h t d x) (writePort (settingOf d x) (worldOf r h t d x) b)
+  -- a byte sent leaves, and tells, what the machine's step says of the boxes seen
+  pub write-seen : Sees r h t d x (dataWrite r b h t d x) (reportOf (settingOf d x) (worldOf r h t d x) b) (writePort (settingOf d x) (worldOf r h t d x) b)
   unfolding dataWrite
   write-seen =
-      subst (λ (z : Result Sent). Sees r h t d x (leftOf z r h t d x) (writePort (settingOf d x) (worldOf r h t d x) b)) (sent-right r b h t d x ok held) (seen-sent (r .write .on) refl)
+      subst (λ (z : Result Sent). Sees r h t d x (leftOf z r h t d x) (reportOf (settingOf d x) (worldOf r h t d x) b) (writePort (settingOf d x) (worldOf r h t d x) b)) (sent-right r b h t d x ok held) (seen-sent (r .write .on) refl)
 
 -- numbers that no controller has, and held bytes of another length, are refusal 1, and change nothing
 module _ (r : Regs) (b : ℕ) (h t d x : List ℕ) where

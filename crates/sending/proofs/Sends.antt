@@ -21,7 +21,8 @@ use Rattle.registers.specs.declared.regs.Pending.{Pending}
 use Rattle.registers.specs.declared.regs.Receipt.{Receipt}
 use Rattle.registers.specs.declared.regs.Receipt.the-variants as receipt
 use Rattle.registers.specs.declared.regs.Written.{Written}
-use Rattle.registers.specs.Boxes.{Setting, Drives, Inside, Add, Hold, Clear, Effect, Sent}
+use Rattle.registers.specs.declared.regs.Report.{Report}
+use Rattle.registers.specs.Boxes.{silent, Setting, Drives, Inside, Add, Hold, Clear, Effect, Sent}
 use Rattle.codes.specs.Table.{commandOf, bytesFor}
 use Rattle.commands.specs.Commands.{byte, formatTrack, obeyed}
 use Rattle.sending.specs.Machine.{sends, clearing, commandIf, commandByte, dataIf, dataByte, byteFor, sent}
@@ -86,7 +87,7 @@ module _ (r : Regs) (b : ℕ) (h t d x : List ℕ) where
       command-is : commandOf (byte All 0) ≡ k
       command-is = ap commandOf all-first ∙ sym ek
 
-      pub command-part : (r .count + 1 ≡ n → ⊥) → left (accepted (regsTaken (Add b) r)) h t d x ≡ leftOf (commandHere r b t d x) r h t d x
+      pub command-part : (r .count + 1 ≡ n → ⊥) → left (accepted silent (regsTaken (Add b) r)) h t d x ≡ leftOf (commandHere r b t d x) r h t d x
       unfolding commandByte commandIf leftOf regsOf regsAll regsResponded
       command-part q =
           let e : eqb (length All) (bytesFor k) ≡ false = ne-eqb _ _ (λ z. q (sym all-length ∙ z ∙ sym en)) in
@@ -136,7 +137,7 @@ module _ (r : Regs) (b : ℕ) (h t d x : List ℕ) (room : r .write .taken < len
   whole-is : take (r .write .taken + 1) Held ≡ Whole
   whole-is = rw add-one (take-suc-set h (r .write .taken) b room)
 
-  pub data-part : (n : ℕ) (a : Written) → n ≡ sizeOf (r .write .id .n) → (r .write .taken + 1 ≡ n → ⊥) → a ≡ accepted (regsTaken (Hold b) r)
+  pub data-part : (n : ℕ) (a : Written) → n ≡ sizeOf (r .write .id .n) → (r .write .taken + 1 ≡ n → ⊥) → a ≡ accepted silent (regsTaken (Hold b) r)
       → left a Held t d x ≡ leftOf (dataHere r b h t d x) r h t d x
   unfolding dataByte dataIf leftOf regsOf regsAll regsResponded
   data-part n a en ne ea =
@@ -145,7 +146,7 @@ module _ (r : Regs) (b : ℕ) (h t d x : List ℕ) (room : r .write .taken < len
 
   -- the end of a write, and where it is refused the held byte that was there
   heldBack : Receipt → List ℕ
-  heldBack receipt.Good = Held
+  heldBack (receipt.Good y) = Held
   heldBack (receipt.Refused why) = set Held (r .write .taken) (getD h (r .write .taken) 0)
 
   back-is : (e : Result Effect) → Still e → let a : Written = regsOf e (regsTaken (Hold b) r) in
@@ -173,9 +174,9 @@ module _ (r : Regs) (b : ℕ) (h t d x : List ℕ) (room : r .write .taken < len
         ∙ back-is e (still-written (settingOf d x) (writingOf (r .write) Whole) (namedIn (r .write .c1) r t d)))
 
     module _ (taken : Regs) (l : List ℕ) (et : taken ≡ regsTaken (Hold b) r) (el : l ≡ take (r .write .taken + 1) Held) where
-      pub data-good : a .receipt ≡ receipt.Good → Ended l taken → left a Held t′ d′ x ≡ leftOf (dataHere r b h t d x) r h t d x
+      pub data-good : (told : Report) → a .receipt ≡ receipt.Good told → Ended l taken → left a Held t′ d′ x ≡ leftOf (dataHere r b h t d x) r h t d x
       unfolding heldBack
-      data-good f q = sym (ap (λ (y : Receipt). left (keptIf y a r) (heldBack y) t′ d′ x) f) ∙ data-end l (el ∙ whole-is) (subst (Ended l) et q)
+      data-good told f q = sym (ap (λ (y : Receipt). left (keptIf y a r) (heldBack y) t′ d′ x) f) ∙ data-end l (el ∙ whole-is) (subst (Ended l) et q)
 
       pub data-refused : (why : Refusal) (a′ : Written) → a .receipt ≡ receipt.Refused why → a′ ≡ declined why r → Ended l taken
           → left a′ (set Held (r .write .taken) (getD h (r .write .taken) 0)) t′ d′ x ≡ leftOf (dataHere r b h t d x) r h t d x

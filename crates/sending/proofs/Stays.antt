@@ -11,7 +11,8 @@ use Rattle.fields.specs.Refusals.{Result, refused, good, need, after}
 use Rattle.fields.specs.Model.{Sector, Disk}
 use Rattle.fields.specs.declared.refusal.Refusal.the-variants.{BadController, NoTransferRoom}
 use Rattle.fields.proofs.Tests.{never}
-use Rattle.store.specs.Search.{readAt}
+use Rattle.store.specs.Search.{matchAt, readAt}
+use Rattle.store.specs.declared.answer.Match.{Match}
 use Rattle.store.specs.Store.{contents}
 use Rattle.codes.specs.declared.command.Command.{Command}
 use Rattle.codes.specs.declared.command.Command.the-variants.{Specify, SenseDrive, Recalibrate, SenseInterrupt, SeekTo, Version, ReadData, ReadDeleted, WriteData, ReadId, FormatTrack, Unserved, Invalid}
@@ -21,13 +22,13 @@ use Rattle.registers.specs.declared.regs.Regs.{Regs}
 use Rattle.registers.specs.declared.regs.Seek.{Seek}
 use Rattle.registers.specs.declared.regs.Seek.the-variants.{Idle, Running, Done}
 use Rattle.registers.specs.declared.regs.Written.{Written}
-use Rattle.registers.specs.Boxes.{Setting, Slot, Empty, Holds, Inside, Front, World, Named, named, interrupted, responded}
+use Rattle.registers.specs.Boxes.{Setting, Slot, Empty, Holds, Inside, Front, World, Named, named, serves, interrupted, responded}
 use Rattle.registers.specs.Boxes.{Response, Stay, Reply, ReplyIfNone, Seeking, Interrupt, Serve, Effect, Sent}
 use Rattle.registers.specs.Ports.{setMotor, changeDisk}
 use Rattle.registers.specs.View.{settingOf, slotOf, insideOf, frontOf, impossible}
 use Rattle.registers.specs.Calls.{switchedIf, motorSet, diskSet}
 use Rattle.registers.specs.Settle.{regsWithMotor, regsWithDrive}
-use Rattle.commands.specs.Commands.{byte, idOf, does, notReady, whenReady, seekTo, servedAs, readData, writeData, written, readId, formatTrack, obeyed}
+use Rattle.commands.specs.Commands.{byte, idOf, tells, does, notReady, whenReady, seekTo, servedAs, readData, writeData, written, readId, formatTrack, obeyed}
 use Rattle.commands.specs.Lent.{transferWith, left, leftOf}
 use Rattle.commands.proofs.Runs.{StillS, Still, quiet-seek, quiet-id, quiet-write, still-format, still-written}
 use Rattle.sending.specs.Reads.{EndsRead, Refilled}
@@ -74,20 +75,23 @@ module _ (s : Setting) (i : Inside) (b : ℕ) where
         Read : Disk → List Sector
         Read y = readAt y (headOf (byte Line 1)) (Drive .cylinder) (idOf Line) (byte Line 6)
 
-        roomy : (v : Bool) (y : Disk) → Drive .slot ≡ Holds (good y) → (x : Sector) (xs : List Sector) → Read y ≡ x ∷ xs → (reply : List ℕ)
-            → ServesE (need v NoTransferRoom (does [] (Serve (contents (x ∷ xs)) reply)))
-        roomy true y d x xs e reply =
+        roomy : (v : Bool) (y : Disk) → Drive .slot ≡ Holds (good y) → (x : Sector) (xs : List Sector) → Read y ≡ x ∷ xs → (m : Match) (reply : List ℕ)
+            → ServesE (need v NoTransferRoom (tells (serves m) [] (Serve (contents (x ∷ xs)) reply)))
+        roomy true y d x xs e m reply =
             record { command = Line; is-command = refl; no-write = n; reads = k; whole = w; disk = y; in-drive = d; first = x; rest = xs; found = e; theirs = refl }
-        roomy false y d x xs e reply = tt
+        roomy false y d x xs e m reply = tt
 
-        served : (y : Disk) → Drive .slot ≡ Holds (good y) → (ss : List Sector) → Read y ≡ ss → ServesE (servedAs s deleted Line ss)
-        served y d [] e = tt
-        served y d (x ∷ xs) e = roomy (leb (length (contents (x ∷ xs))) (s .transfer)) y d x xs e _
+        served : (y : Disk) → Drive .slot ≡ Holds (good y) → (m : Match) (ss : List Sector) → Read y ≡ ss → ServesE (servedAs s deleted Line m ss)
+        served y d m [] e = tt
+        served y d m (x ∷ xs) e = roomy (leb (length (contents (x ∷ xs))) (s .transfer)) y d x xs e m _
 
-        in-slot : (z : Slot) → Drive .slot ≡ z → (e : Result Effect) → ServesE e → ServesE (whenReady z e (λ y. servedAs s deleted Line (Read y)))
+        First : Disk → Match
+        First y = matchAt y (headOf (byte Line 1)) (Drive .cylinder) (idOf Line)
+
+        in-slot : (z : Slot) → Drive .slot ≡ z → (e : Result Effect) → ServesE e → ServesE (whenReady z e (λ y. servedAs s deleted Line (First y) (Read y)))
         in-slot Empty d e q = q
         in-slot (Holds (refused why)) d e q = tt
-        in-slot (Holds (good y)) d e q = served y d (Read y) refl
+        in-slot (Holds (good y)) d e q = served y d (First y) (Read y) refl
 
     command-serves : (k : Command) → commandOf (byte Line 0) ≡ k → ServesE (obeyed s k Line (i .drives) (i .index))
     unfolding obeyed

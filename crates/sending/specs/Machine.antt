@@ -8,7 +8,8 @@ use lib.Dec.{eqb}
 use Rattle.fields.specs.Refusals.{Result, refused, good, after}
 use Rattle.fields.specs.Model.{sizeOf}
 use Rattle.registers.specs.Boxes.{Setting, Drives, Writing, Inside, World, named, holding, taken, allChanged, putIn, responded}
-use Rattle.registers.specs.Boxes.{Taking, Add, Hold, Clear, Stay, Effect, Sent}
+use Rattle.registers.specs.Boxes.{Taking, Add, Hold, Clear, Stay, Effect, Sent, silent}
+use Rattle.registers.specs.declared.regs.Report.{Report}
 use Rattle.codes.specs.declared.command.Command.{Command}
 use Rattle.codes.specs.Table.{commandOf, bytesFor}
 use Rattle.commands.specs.Commands.{byte, does, obeyed, written}
@@ -22,7 +23,7 @@ sends x (good e) = good record { taking = x; effect = e }
 -- before what a command does, its bytes are done with
 abbrev pub clearing : Result Effect → Result Effect
 clearing (refused why) = refused why
-clearing (good e) = good record { changes = Clear ∷ e .changes; response = e .response; put = e .put }
+clearing (good e) = good record { changes = Clear ∷ e .changes; response = e .response; put = e .put; report = e .report }
 
 -- a command whose last byte has come is obeyed
 unfoldable pub commandIf : Bool → Setting → Command → List ℕ → Drives → ℕ → Result Effect
@@ -57,5 +58,14 @@ done w x = record {
   front = responded (x .effect .response) (w .front);
 }
 
+-- the next state
 unfoldable pub writePort : Setting → World → ℕ → Result World
 writePort s w b = after (sent s (w .inside) b) (λ x. good (done w x))
+
+-- and what the host is told of it, nothing where it is refused (2026-05)
+abbrev pub reported : Result Sent → Report
+reported (refused why) = silent
+reported (good x) = x .effect .report
+
+unfoldable pub reportOf : Setting → World → ℕ → Report
+reportOf s w b = reported (sent s (w .inside) b)

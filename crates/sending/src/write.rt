@@ -29,16 +29,15 @@ fn finish_write(regs: Regs, held: &[u8], table: &mut [u8], bytes: &mut [u8]) -> 
     let c1 = regs.write.c1;
     let id = regs.write.id;
     let d = regs.named(c1);
-    let a = regs.finished()
-        .reply7(St0::from_c1(c1) + St0::FAIL, St1::END_OF_CYLINDER, 0, id)
-        .done();
+    let r = regs.finished()
+        .reply7(St0::from_c1(c1) + St0::FAIL, St1::END_OF_CYLINDER, 0, id);
     if !d.disk {
-        return a;
+        return r.done();
     }
     match disk::save(table, bytes, head_of(c1), d.cylinder, id, held) {
         Saved::Refused(why) => regs.refused(why),
-        Saved::Missing => a,
-        Saved::Good => a,
+        Saved::Missing => r.done(),
+        Saved::Good(sector) => r.found(sector),
     }
 }
 
@@ -62,7 +61,7 @@ fn data_byte(regs: Regs, b: u8, held: &mut [u8], table: &mut [u8], bytes: &mut [
     let a = finish_write(r, &held[..end], table, bytes);
     let receipt = a.receipt;
     match receipt {
-        Receipt::Good => a,
+        Receipt::Good(_) => a,
         Receipt::Refused(why) => {
             held[at] = was;
             regs.refused(why)

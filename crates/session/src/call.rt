@@ -7,6 +7,7 @@ use crate::parse::put_at;
 use crate::print::ROW;
 use crate::print::answer;
 use crate::print::field;
+use crate::print::named;
 use crate::print::refusal;
 use crate::print::refused_at;
 use crate::print::rows;
@@ -23,7 +24,7 @@ pub type Content = [u8; fields::DATA];
 
 pub type Transfer = [u8; fields::TRANSFER];
 
-// How many calls were good, and the one that was refused: its number from 1 and its word, 0 where there is none.
+// How many calls were good, the number from 1 of the one that was refused, 0 where there is none, and the word of the last one.
 struct Passed {
     count: usize,
     at: usize,
@@ -79,12 +80,8 @@ pub(crate) fn motor(on: usize, controller: &mut Controller) {
 }
 
 // No call was refused.
-fn all(count: usize) -> Passed {
-    Passed {
-        count,
-        at: 0,
-        word: 0,
-    }
+fn all(count: usize, word: u64) -> Passed {
+    Passed { count, at: 0, word }
 }
 
 // A read of the data port or of the status.
@@ -113,7 +110,7 @@ fn reads(
         put_at(spare, count, (word % 256) as u8);
         count += 1;
     }
-    all(count)
+    all(count, 0)
 }
 
 fn sends(
@@ -124,15 +121,17 @@ fn sends(
     transfer: &mut [u8],
 ) -> Passed {
     let mut count: usize = 0;
+    let mut last: u64 = 0;
     while count < sent.len() {
         let word = host::floppy_write_cmd(controller, table, content, transfer, sent[count]);
         if refusal(word) != 0 {
             let at = count + 1;
             return Passed { count, at, word };
         }
+        last = word;
         count += 1;
     }
-    all(count)
+    all(count, last)
 }
 
 // The refusal that ended a call, with its place where the call was of several bytes.
@@ -213,7 +212,7 @@ pub(crate) fn write(
     if 0 < passed.at {
         return refused(passed, count);
     }
-    text(b"ok\n");
+    answer(passed.word);
 }
 
 // ---- files that are written
@@ -339,8 +338,9 @@ pub(crate) fn geometry(controller: &Controller, table: &Table, content: &Content
 
 fn show_sector(found: u64, content: &Content) {
     let from = found / 4294967296;
-    let count = found % 4294967296;
-    text(b"sector");
+    let count = found % 65536;
+    named(found);
+    text(b",");
     field(count);
     text(b" bytes:");
     rows(buffer::part(content, from as usize, count as usize));

@@ -85,11 +85,35 @@ pub(crate) fn refusal(word: u64) -> u64 {
     word / 256 % 256
 }
 
+// The place in its track of the sector that a word names, 0 where it names none.
+fn place(word: u64) -> u64 {
+    word / 65536 % 256
+}
+
+// That sector: its place, and how many of the track bear its ID.
+pub(crate) fn named(word: u64) {
+    text(b"sector");
+    field(place(word));
+    text(b" of");
+    field(word / 16777216 % 256);
+    text(b" with this ID");
+}
+
+// That a call was good, and the sector that it names, where it names one.
+fn good(word: u64) {
+    text(b"ok");
+    if place(word) != 0 {
+        text(b", ");
+        named(word);
+    }
+    text(b"\n");
+}
+
 // The answer of a call that answers no byte.
 pub(crate) fn answer(word: u64) {
     let why = refusal(word);
     if why == 0 {
-        return text(b"ok\n");
+        return good(word);
     }
     text(b"refused");
     field(why);

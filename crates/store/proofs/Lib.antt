@@ -2,6 +2,7 @@
 pub mod Sums
 pub mod Checks
 pub mod Walks
+pub mod Bearings
 pub mod Founds
 pub mod Rounds
 pub mod Leaves

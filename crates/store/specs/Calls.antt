@@ -14,9 +14,10 @@ use Rattle.fields.specs.declared.id.SectorId.{SectorId}
 use Rattle.fields.specs.declared.refusal.Refusal.{Refusal}
 use Rattle.fields.specs.declared.refusal.Refusal.the-variants.{BadStore, TooManyTracks, TooManySectors, NoRoom, ShortBuffer}
 use Rattle.store.specs.Find.{Found, nothing, found}
-use Rattle.store.specs.Search.{sectorAt, sectorByIndex, greatest, isSide0}
+use Rattle.store.specs.Search.{sectorAt, matchAt, sectorByIndex, greatest, isSide0}
 use Rattle.store.specs.Store.{tableLength, roomOf, tableOf, dataOf, diskOf}
 use Rattle.store.specs.Fresh.{fresh}
+use Rattle.store.specs.declared.answer.Match.{Match}
 use Rattle.store.specs.declared.answer.Has.{Has}
 use Rattle.store.specs.declared.answer.Has.the-variants as has
 use Rattle.store.specs.declared.answer.Geometry.{Geometry}
@@ -40,15 +41,15 @@ abbrev pub lookupOf : Result Disk → ℕ → ℕ → SectorId → List ℕ
 lookupOf (refused why) side cylinder id = []
 lookupOf (good d) side cylinder id = contentOf (sectorAt d side cylinder id)
 
--- whether a sector was found
-abbrev pub foundOf : Found Sector → Has
-foundOf nothing = has.No
-foundOf (found i s) = has.Yes
+-- whether a sector was found, and which one
+abbrev pub foundOf : Match → Found Sector → Has
+foundOf m nothing = has.No
+foundOf m (found i s) = has.Yes m
 
--- `has_sector`: yes, no or 2
+-- `has_sector`: yes, and which one; no; or 2
 abbrev pub hasOf : Result Disk → ℕ → ℕ → SectorId → Has
 hasOf (refused why) side cylinder id = has.Refused why
-hasOf (good d) side cylinder id = foundOf (sectorAt d side cylinder id)
+hasOf (good d) side cylinder id = foundOf (matchAt d side cylinder id) (sectorAt d side cylinder id)
 
 -- `geometry`: the greatest cylinder of side 0 and of all other sides, or 2
 abbrev pub geometryOf : Result Disk → Geometry

@@ -5,7 +5,8 @@ use mathlib.Core.Bool.{Bool, cond, _&&_}
 use lib.ListN.{length}
 use lib.Dec.{eqb}
 use Rattle.fields.specs.declared.id.SectorId.{SectorId}
-use Rattle.fields.specs.Model.{Sector, Track, Disk}
+use Rattle.fields.specs.Model.{Sector, Track, Disk, total}
+use Rattle.store.specs.declared.answer.Match.{Match}
 use Rattle.store.specs.Find.{Found, nothing, found, find, nth}
 
 -- a track by cylinder and side
@@ -24,6 +25,32 @@ inTrack id (found i t) = find (isSector id) (t .sectors)
 -- the sector at an address: the first matching track's first matching sector
 unfoldable pub sectorAt : Disk → ℕ → ℕ → SectorId → Found Sector
 sectorAt d side cylinder id = inTrack id (find (isTrack side cylinder) d)
+
+-- how many sectors bear an ID (2026-05)
+abbrev pub bearing : SectorId → List Sector → ℕ
+bearing id ss = total (λ s. cond (isSector id s) 1 0) ss
+
+-- zero for both where none was found
+abbrev pub noMatch : Match
+noMatch = record { place = 0; count = 0 }
+
+-- which sector was found: its place in the track, from 1, and how many bear that ID
+abbrev pub matchOf : ℕ → Found Sector → Match
+matchOf bear nothing = noMatch
+matchOf bear (found i s) = record { place = i + 1; count = bear }
+
+-- which of a track's sectors is the first with an ID
+abbrev pub firstMatch : SectorId → List Sector → Match
+firstMatch id ss = matchOf (bearing id ss) (find (isSector id) ss)
+
+-- the same of the track that was found
+abbrev pub matchIn : SectorId → Found Track → Match
+matchIn id nothing = noMatch
+matchIn id (found i t) = firstMatch id (t .sectors)
+
+-- which sector stands at an address
+unfoldable pub matchAt : Disk → ℕ → ℕ → SectorId → Match
+matchAt d side cylinder id = matchIn id (find (isTrack side cylinder) d)
 
 -- the same ID with another number
 abbrev pub numbered : SectorId → ℕ → SectorId

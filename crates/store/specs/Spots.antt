@@ -1,5 +1,5 @@
 -- What the private calls and those that are lent to the crates above answer, by place. The last part, where a sector stands, is what `disk_sector` goes by.
-use Prim.Native.Nat.{ℕ, zero, suc, _+_, _*_, _%_, _≤_, max}
+use Prim.Native.Nat.{ℕ, zero, suc, _+_, _-_, _*_, _%_, _≤_, max}
 use mathlib.Core.List.{List}
 use mathlib.Core.Bool.{Bool, _&&_, cond}
 use mathlib.Core.Path.{_≡_}
@@ -13,10 +13,13 @@ use Rattle.tracks.specs.Block.{rowAt, sectorOf}
 use Rattle.fields.specs.declared.id.SectorId.{SectorId}
 use Rattle.fields.specs.declared.refusal.Refusal.the-variants.{BadStore}
 use Rattle.store.specs.Find.{Found, nothing, found}
-use Rattle.store.specs.Search.{sectorAt}
+use Rattle.store.specs.Search.{sectorAt, noMatch, matchAt}
 use Rattle.store.specs.Store.{tableLength, roomOf, countAt, nextAt, trackSum, countsAt, bytesAt, wellLaid, diskOf}
 use Rattle.store.specs.declared.find.Spot.{Spot}
 use Rattle.store.specs.declared.find.Spot.the-variants.{Nothing, At}
+use Rattle.store.specs.declared.answer.Match.{Match}
+use Rattle.store.specs.declared.find.Hit.{Hit}
+use Rattle.store.specs.declared.find.Hit.the-variants as hit
 use Rattle.store.specs.declared.find.Turned.{Turned}
 use Rattle.store.specs.declared.find.Turned.the-variants.{Empty, Row}
 use Rattle.store.specs.declared.answer.Geometry.{Geometry}
@@ -66,6 +69,31 @@ spotIn t id (At i at place) = sectorSpot t id 0 (at + 6) place (countAt t at)
 unfoldable pub storeSpot : List ℕ → ℕ → ℕ → SectorId → Spot
 storeSpot t side cylinder id = spotIn t id (trackSpot t side cylinder 0 1 0 (byteAt t 0))
 
+-- how many of so many rows bear an ID, and of those of a track that was found
+unfoldable pub bearingAt : List ℕ → SectorId → ℕ → ℕ → ℕ
+bearingAt t id at zero = 0
+bearingAt t id at (suc left) = cond (rowHere t id at) 1 0 + bearingAt t id (at + 8) left
+
+abbrev pub bearingIn : List ℕ → SectorId → Spot → ℕ
+bearingIn t id Nothing = 0
+bearingIn t id (At i at place) = bearingAt t id (at + 6) (countAt t at)
+
+-- how many rows of the track at an address bear the ID
+unfoldable pub storeBearing : List ℕ → ℕ → ℕ → SectorId → ℕ
+storeBearing t side cylinder id = bearingIn t id (trackSpot t side cylinder 0 1 0 (byteAt t 0))
+
+-- a row that was found, where so many bear its ID: which one it is, its place and that of its bytes
+abbrev pub hitOf : ℕ → Spot → Hit
+hitOf bear Nothing = hit.Nothing
+hitOf bear (At i at place) = hit.At (record { place = i + 1; count = bear }) at place
+
+-- the first of so many rows with an ID; and the row at an address
+unfoldable pub rowHit : List ℕ → SectorId → ℕ → ℕ → ℕ → Hit
+rowHit t id start first count = hitOf (bearingAt t id start count) (sectorSpot t id 0 start first count)
+
+unfoldable pub storeHit : List ℕ → ℕ → ℕ → SectorId → Hit
+storeHit t side cylinder id = hitOf (storeBearing t side cylinder id) (storeSpot t side cylinder id)
+
 -- the greatest cylinders of side 0 and of the other sides among so many tracks, and those met before
 unfoldable pub cylindersAt : List ℕ → ℕ → ℕ → ℕ → ℕ → Geometry
 cylindersAt t c0 c1 at zero = Of c0 c1
@@ -89,25 +117,35 @@ pub record Walkable (t : List ℕ) : Type 0 where
 
 -- ---- Where a sector stands
 
--- a row that was found: its index, its place, and where its bytes begin and end, before the end of all bytes
-abbrev pub placeAt : List ℕ → Spot → Place
-placeAt t Nothing = place.Nothing
-placeAt t (At i at from) = place.Part i at from (from + rowAt t at .stored) (bytesAt t 1 (byteAt t 0))
+-- a row that was found: which one it is, its place, and where its bytes begin and end, before the end of all bytes
+abbrev pub placeAt : List ℕ → Hit → Place
+placeAt t hit.Nothing = place.Nothing
+placeAt t (hit.At m at from) = place.Part m at from (from + rowAt t at .stored) (bytesAt t 1 (byteAt t 0))
 
 -- `locate`: 2, nothing, or where the first match stands
 unfoldable pub placeOf : List ℕ → List ℕ → ℕ → ℕ → SectorId → Place
-placeOf t b side cylinder id = cond (wellLaid t (roomOf b)) (placeAt t (storeSpot t side cylinder id)) (place.Refused BadStore)
+placeOf t b side cylinder id = cond (wellLaid t (roomOf b)) (placeAt t (storeHit t side cylinder id)) (place.Refused BadStore)
 
--- the sector that stands at a place of a store
+-- the sector that stands at a place of a store, with its index
 abbrev pub standsAt : List ℕ → List ℕ → Place → Result (Found Sector)
 standsAt t b (place.Refused why) = refused why
 standsAt t b place.Nothing = good nothing
-standsAt t b (place.Part index row from to end) = good (found index (sectorOf (rowAt t row) (drop from b)))
+standsAt t b (place.Part m row from to end) = good (found (m .place - 1) (sectorOf (rowAt t row) (drop from b)))
 
--- what a search of a store answers
+-- which sector of its track that is
+abbrev pub matchedAt : Place → Match
+matchedAt (place.Refused why) = noMatch
+matchedAt place.Nothing = noMatch
+matchedAt (place.Part m row from to end) = m
+
+-- what a search of a store answers: the sector, and which one it is
 abbrev pub searched : Result Disk → ℕ → ℕ → SectorId → Result (Found Sector)
 searched (refused why) side cylinder id = refused why
 searched (good d) side cylinder id = good (sectorAt d side cylinder id)
+
+abbrev pub matched : Result Disk → ℕ → ℕ → SectorId → Match
+matched (refused why) side cylinder id = noMatch
+matched (good d) side cylinder id = matchAt d side cylinder id
 
 -- a row and its bytes within a store
 pub record Placed (t b : List ℕ) (row from to end : ℕ) : Type 0 where
@@ -120,9 +158,10 @@ pub record Placed (t b : List ℕ) (row from to end : ℕ) : Type 0 where
 abbrev pub Within : List ℕ → List ℕ → Place → Type 0
 Within t b (place.Refused why) = Unit {0}
 Within t b place.Nothing = Unit {0}
-Within t b (place.Part index row from to end) = Placed t b row from to end
+Within t b (place.Part m row from to end) = Placed t b row from to end
 
--- a place is within the store, and what stands there is what the search finds
+-- a place is within the store, and what stands there is what the search finds, with its place and how many bear its ID
 pub record Located (t b : List ℕ) (side cylinder : ℕ) (id : SectorId) (r : Place) : Type 0 where
   pub says : standsAt t b r ≡ searched (diskOf t b) side cylinder id
+  pub which : matchedAt r ≡ matched (diskOf t b) side cylinder id
   pub within : Within t b r

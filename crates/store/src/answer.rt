@@ -1,9 +1,25 @@
 // What the public calls answer.
 use fields::Refusal;
 use fields::SectorId;
+ghost use mathlib.Core.Path.{_≡_};
+ghost use Rattle.store.specs.Search.{noMatch};
+
+// Which sector a search serves: its place in the track, from 1, and how many sectors of the track bear its ID; 0 and 0 where there is none.
+pub struct Match {
+    pub place: u8,
+    pub count: u8,
+}
+
+impl Match {
+    pub fn none() -> Match
+        ensures { λ r. ⌜ r ≡ noMatch ⌝ }
+    {
+        Match { place: 0, count: 0 }
+    }
+}
 
 pub enum Has {
-    Yes,
+    Yes(Match),
     No,
     Refused(Refusal),
 }

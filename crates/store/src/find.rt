@@ -1,6 +1,7 @@
 // The searches: a track by cylinder and side, a sector by all four bytes of its ID, each the first that matches.
 use crate::answer::Geometry;
 use crate::answer::IdFound;
+use crate::answer::Match;
 use crate::check::Tallied;
 use crate::check::room_of;
 use crate::check::rows_len;
@@ -13,7 +14,7 @@ ghost use Rattle.fields.specs.Capacities.{mostData};
 ghost use Rattle.fields.specs.Bytes.{byteAt};
 ghost use Rattle.store.specs.Store.{tableLength, sumAt, diskOf};
 ghost use Rattle.store.specs.Calls.{geometryOf, idByIndex};
-ghost use Rattle.store.specs.Spots.{cylindersAt, indexSpot, trackHere, rowHere, trackSpot, sectorSpot, storeSpot, placeOf, Walkable};
+ghost use Rattle.store.specs.Spots.{cylindersAt, indexSpot, trackHere, rowHere, trackSpot, sectorSpot, bearingAt, rowHit, storeHit, placeOf, Walkable};
 
 // Where a search ends: the index of what it found, its place in the table and that of its bytes.
 pub enum Spot {
@@ -25,18 +26,28 @@ pub enum Spot {
     },
 }
 
+// Where the search for a sector ends: which one it is, its row and the place of its bytes.
+pub enum Hit {
+    Nothing,
+    At {
+        which: Match,
+        row: usize,
+        from: usize,
+    },
+}
+
 // The row that an index stands for, counted round its track.
 pub enum Turned {
     Empty,
     Row { index: usize, at: usize },
 }
 
-// Where the sector at an address stands: its index in its track, its row, its bytes, and the end of the bytes of all sectors.
+// Where the sector at an address stands: which one it is, its row, its bytes, and the end of the bytes of all sectors.
 pub enum Place {
     Refused(Refusal),
     Nothing,
     Part {
-        index: usize,
+        which: Match,
         row: usize,
         from: usize,
         to: usize,
@@ -116,6 +127,46 @@ pub fn get_sector(table: &[u8], start: usize, first: usize, count: usize, id: Se
     Spot::Nothing
 }
 
+// How many of `count` rows have this ID.
+fn bearing(table: &[u8], start: usize, count: usize, id: SectorId) -> usize
+    requires { ⌜ (start + 8 * count ≤ tableLength) × (count < 256) ⌝ }
+    ensures { λ r. ⌜ (r ≡ bearingAt (now (table .entry)) id start count) × (r ≤ count) ⌝ }
+{
+    let mut found: usize = 0;
+    let mut at = start;
+    let mut left = count;
+    while 0 < left {
+        if row_here(table, at, id) {
+            found += 1;
+        }
+        at += 8;
+        left -= 1;
+    }
+    found
+}
+
+// The first of `count` rows with this ID, and which one it is: the count goes on behind the row where the search ended.
+pub fn first_sector(table: &[u8], start: usize, first: usize, count: usize, id: SectorId) -> Hit
+    requires { ⌜ (start + 8 * count ≤ tableLength) × ((count < 256) × (first + sumAt (now table) start count ≤ mostData)) ⌝ }
+    ensures { λ r. ⌜ r ≡ rowHit (now (table .entry)) id start first count ⌝ }
+{
+    match get_sector(table, start, first, count, id) {
+        Spot::Nothing => Hit::Nothing,
+        Spot::At {
+            index,
+            at: row,
+            place: from,
+        } => {
+            let behind = bearing(table, row + 8, count - index - 1, id);
+            let which = Match {
+                place: (index + 1) as u8,
+                count: (behind + 1) as u8,
+            };
+            Hit::At { which, row, from }
+        }
+    }
+}
+
 // The row with this index in the track at a place, counted round the track.
 pub fn get_sector_by_idx(table: &[u8], at: usize, idx: usize) -> Turned
     requires { ⌜ at < 65536 ⌝ }
@@ -174,20 +225,20 @@ pub fn geometry(table: &[u8], bytes: &[u8]) -> Geometry
     }
 }
 
-// The row at an address.
-pub fn find_sector(table: &[u8], side: u8, cylinder: u8, id: SectorId) -> Spot
+// The row at an address, and which of those with its ID it is.
+fn find_sector(table: &[u8], side: u8, cylinder: u8, id: SectorId) -> Hit
     requires { ⌜ Walkable (now table) ⌝ }
-    ensures { λ r. ⌜ r ≡ storeSpot (now (table .entry)) side cylinder id ⌝ }
+    ensures { λ r. ⌜ r ≡ storeHit (now (table .entry)) side cylinder id ⌝ }
 {
     match get_track(table, side, cylinder) {
-        Spot::Nothing => Spot::Nothing,
+        Spot::Nothing => Hit::Nothing,
         Spot::At {
             index: _,
             at,
             place,
         } => {
             let count = fields::byte(table, at + 5);
-            get_sector(table, at + 6, place, count, id)
+            first_sector(table, at + 6, place, count, id)
         }
     }
 }
@@ -203,16 +254,12 @@ pub fn locate(table: &[u8], bytes: &[u8], side: u8, cylinder: u8, id: SectorId) 
             bytes: end,
             end: _,
         } => match find_sector(table, side, cylinder, id) {
-            Spot::Nothing => Place::Nothing,
-            Spot::At {
-                index,
-                at: row,
-                place: from,
-            } => {
+            Hit::Nothing => Place::Nothing,
+            Hit::At { which, row, from } => {
                 let entry = tracks::row_at(table, row);
                 let to = from + (entry.stored as usize);
                 Place::Part {
-                    index,
+                    which,
                     row,
                     from,
                     to,

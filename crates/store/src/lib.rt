@@ -9,6 +9,7 @@ pub use answer::Extent;
 pub use answer::Geometry;
 pub use answer::Has;
 pub use answer::IdFound;
+pub use answer::Match;
 use fields::SectorId;
 pub use find::geometry;
 pub use find::id_by_idx;
@@ -23,9 +24,10 @@ pub use check::room_of;
 pub use check::rows_len;
 pub use check::tally;
 pub use check::transfer_room;
+pub use find::Hit;
 pub use find::Place;
 pub use find::Spot;
-pub use find::find_sector;
+pub use find::first_sector;
 pub use find::get_sector;
 pub use find::get_track;
 pub use find::greater;
@@ -46,7 +48,7 @@ pub fn lookup<'t, 'b>(
         Place::Refused(_) => &bytes[0..0],
         Place::Nothing => &bytes[0..0],
         Place::Part {
-            index: _,
+            which: _,
             row: _,
             from,
             to,
@@ -55,7 +57,7 @@ pub fn lookup<'t, 'b>(
     }
 }
 
-// Whether there is a sector at an address.
+// Whether there is a sector at an address, and which of those with its ID it is.
 pub fn has_sector(table: &[u8], bytes: &[u8], side: u8, cylinder: u8, id: SectorId) -> Has
     ensures { λ r. ⌜ r ≡ hasOf (diskOf (now (table .entry)) (now (bytes .entry))) side cylinder id ⌝ }
 {
@@ -63,11 +65,11 @@ pub fn has_sector(table: &[u8], bytes: &[u8], side: u8, cylinder: u8, id: Sector
         Place::Refused(why) => Has::Refused(why),
         Place::Nothing => Has::No,
         Place::Part {
-            index: _,
+            which,
             row: _,
             from: _,
             to: _,
             end: _,
-        } => Has::Yes,
+        } => Has::Yes(which),
     }
 }

@@ -33,7 +33,7 @@ fn ask(table: &[u8], bytes: &[u8], side: u8, cylinder: u8, id: SectorId) {
     match store::has_sector(table, bytes, side, cylinder, id) {
         store::Has::Refused(why) => replay::refused(why),
         store::Has::No => replay::put(b" none\n"),
-        store::Has::Yes => replay::show_content(store::lookup(table, bytes, side, cylinder, id)),
+        store::Has::Yes(_) => replay::show_content(store::lookup(table, bytes, side, cylinder, id)),
     }
 }
 

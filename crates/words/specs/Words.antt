@@ -1,14 +1,17 @@
--- The answer word: the byte in bits 0 to 7, the refusal number in bits 8 to 15. A refused call answers its number alone.
+-- The answer word: the byte in bits 0 to 7, the refusal number in bits 8 to 15, which sector was served in bits 16 to 31. A refused call answers its
+-- number alone.
 use Prim.Native.Nat.{ℕ, _+_, _*_, _^_}
 use mathlib.Core.Bool.{Bool, true, false}
 use Rattle.fields.specs.Refusals.{numberOf}
 use Rattle.fields.specs.declared.refusal.Refusal.{Refusal}
+use Rattle.store.specs.declared.answer.Match.{Match}
 use Rattle.store.specs.declared.answer.Has.{Has}
 use Rattle.store.specs.declared.answer.Has.the-variants as has
 use Rattle.store.specs.declared.answer.Geometry.{Geometry}
 use Rattle.store.specs.declared.answer.Geometry.the-variants as geometry
 use Rattle.store.specs.declared.answer.Done.{Done}
 use Rattle.store.specs.declared.answer.Done.the-variants as done
+use Rattle.registers.specs.declared.regs.Report.{Report}
 use Rattle.registers.specs.declared.regs.Receipt.{Receipt}
 use Rattle.registers.specs.declared.regs.Receipt.the-variants as receipt
 use Rattle.registers.specs.declared.regs.Byte.{Byte}
@@ -38,12 +41,20 @@ abbrev pub doneWord : Done → ℕ
 doneWord done.Good = 0
 doneWord (done.Refused why) = refusalWord why
 
+-- which sector was served: its place in the track in bits 16 to 23, how many bear its ID in bits 24 to 31 (2026-05)
+abbrev pub matchWord : Match → ℕ
+matchWord m = m .place * 2 ^ 16 + m .count * 2 ^ 24
+
+-- what the host is told
+abbrev pub reportWord : Report → ℕ
+reportWord x = matchWord (x .sector)
+
 abbrev pub receiptWord : Receipt → ℕ
-receiptWord receipt.Good = 0
+receiptWord (receipt.Good x) = reportWord x
 receiptWord (receipt.Refused why) = refusalWord why
 
 abbrev pub hasWord : Has → ℕ
-hasWord has.Yes = 1
+hasWord (has.Yes m) = 1 + matchWord m
 hasWord has.No = 0
 hasWord (has.Refused why) = refusalWord why
 

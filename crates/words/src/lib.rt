@@ -7,6 +7,7 @@ pub use word::extent_word;
 pub use word::flag_word;
 pub use word::geometry_word;
 pub use word::has_word;
+pub use word::match_word;
 pub use word::receipt_word;
 pub use word::refusal_word;
 pub use word::wide;

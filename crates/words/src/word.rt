@@ -3,12 +3,15 @@ use fields::Refusal;
 use registers::Byte;
 use registers::Flag;
 use registers::Receipt;
+use registers::Report;
 use store::Done;
 use store::Extent;
 use store::Geometry;
 use store::Has;
+use store::Match;
 ghost use mathlib.Core.Path.{_≡_};
-ghost use Rattle.words.specs.Words.{refusalWord, boolWord, byteWord, flagWord, doneWord, receiptWord, hasWord, geometryWord, extentWord};
+ghost use Prim.Native.Nat.{_<_};
+ghost use Rattle.words.specs.Words.{refusalWord, boolWord, byteWord, flagWord, doneWord, matchWord, reportWord, receiptWord, hasWord, geometryWord, extentWord};
 
 pub fn wide(b: u8) -> u64
     ensures { λ r. ⌜ r ≡ b ⌝ }
@@ -55,11 +58,25 @@ pub fn done_word(a: Done) -> u64
     }
 }
 
+// Which sector was served, in bits 16 to 31.
+pub fn match_word(m: Match) -> u64
+    ensures { λ r. ⌜ (r ≡ matchWord m) × (r < 4294967296) ⌝ }
+{
+    wide(m.place) * 65536 + wide(m.count) * 16777216
+}
+
+// What the host is told.
+fn report_word(report: Report) -> u64
+    ensures { λ r. ⌜ r ≡ reportWord report ⌝ }
+{
+    match_word(report.sector)
+}
+
 pub fn receipt_word(a: Receipt) -> u64
     ensures { λ r. ⌜ r ≡ receiptWord a ⌝ }
 {
     match a {
-        Receipt::Good => 0,
+        Receipt::Good(report) => report_word(report),
         Receipt::Refused(why) => refusal_word(why),
     }
 }
@@ -68,7 +85,7 @@ pub fn has_word(a: Has) -> u64
     ensures { λ r. ⌜ r ≡ hasWord a ⌝ }
 {
     match a {
-        Has::Yes => 1,
+        Has::Yes(m) => 1 + match_word(m),
         Has::No => 0,
         Has::Refused(why) => refusal_word(why),
     }

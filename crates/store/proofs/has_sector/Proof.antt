@@ -12,8 +12,8 @@ enum-known-why c = search needs
 enum-told : tie.Need-enum-told
 enum-told c = search needs
 
-enum-told-2 : tie.Need-enum-told-2
-enum-told-2 c = search needs
+enum-known-which : tie.Need-enum-known-which
+enum-known-which c = search needs
 
 returns : tie.Need-returns
 returns c = said-has _ _ _ _ _ _ (c .before .before .before .locate .ensures) _ (c .before .why .given .1)
@@ -22,9 +22,9 @@ returns-2 : tie.Need-returns-2
 returns-2 c = said-has _ _ _ _ _ _ (c .before .before .locate .ensures) _ (c .enum-told .given .1)
 
 returns-3 : tie.Need-returns-3
-returns-3 c = said-has _ _ _ _ _ _ (c .before .before .locate .ensures) _ (c .enum-told2 .given .1)
+returns-3 c = said-has _ _ _ _ _ _ (c .before .before .before .locate .ensures) _ (c .before .which .given .1)
 
 pub has-sector-spec : {M : Type 1} → statement M
 has-sector-spec =
     tie.close
-    (tie.spec locate-requires enum-known-why enum-told enum-told-2 returns returns-2 returns-3)
+    (tie.spec locate-requires enum-known-why enum-told enum-known-which returns returns-2 returns-3)

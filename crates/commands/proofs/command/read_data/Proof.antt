@@ -76,11 +76,12 @@ enum-known-got c = search needs
 
 served-requires : tie.Need-served-requires
 served-requires c κs =
-    let k = c .before .before .before .before .before in
-    read-short _ _ _ _ _ _ _ _ _ _ (c .before .got .given .1) (k .read .ensures)
+    let g = c .before .before in
+    let k = g .before .before .before .before in
+    read-short _ _ _ _ _ _ _ _ _ _ (g .got .given .1) (k .read .ensures)
 
-done-requires-3 : tie.Need-done-requires-3
-done-requires-3 c κs = search needs
+found-requires : tie.Need-found-requires
+found-requires c κs = search needs
 
 same-length : tie.Need-same-length
 same-length c = search needs
@@ -107,10 +108,10 @@ same-length-3 c = search needs
 
 returns-4 : tie.Need-returns-4
 returns-4 c =
-    let g = c .before .before .before in
+    let g = c .before .before .before .before in
     let k = g .before .before .before .before in
     let q = read-here k _ _ (g .got .given .1) (k .read .ensures) in
-    (c .done3 .ensures ∙ simp (c .before .served .ensures) (q .0), q .1)
+    (c .found .ensures ∙ simp (c .before .served .ensures) (q .0), q .1)
 
 pub read-data-spec : {M : Type 1} → statement M
 read-data-spec =
@@ -132,7 +133,7 @@ read-data-spec =
     done-requires-2
     enum-known-got
     served-requires
-    done-requires-3
+    found-requires
     same-length
     returns-2
     same-length-2

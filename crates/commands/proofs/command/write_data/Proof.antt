@@ -61,14 +61,14 @@ missing-requires c κs = search needs
 done-requires-2 : tie.Need-done-requires-2
 done-requires-2 c κs = search needs
 
-enum-told-2 : tie.Need-enum-told-2
-enum-told-2 c = search needs
+enum-known-sector : tie.Need-enum-known-sector
+enum-known-sector c = search needs
 
 started-requires : tie.Need-started-requires
 started-requires c κs = search needs
 
-done-requires-3 : tie.Need-done-requires-3
-done-requires-3 c κs = search needs
+found-requires : tie.Need-found-requires
+found-requires c κs = search needs
 
 returns-2 : tie.Need-returns-2
 unfolding regsOf
@@ -85,8 +85,8 @@ returns-3 c =
 returns-4 : tie.Need-returns-4
 unfolding regsOf regsAll regsResponded
 returns-4 c =
-    let e = c .before .before in
-    c .done3 .ensures ∙ simp (c .before .started .ensures) (found (e .before .before) _ (e .enum-told2 .given .1))
+    let e = c .before .before .before in
+    c .found .ensures ∙ simp (c .before .started .ensures) (found (e .before .before) _ (e .sector .given .1))
 
 pub write-data-spec : {M : Type 1} → statement M
 write-data-spec =
@@ -104,9 +104,9 @@ write-data-spec =
     enum-told
     missing-requires
     done-requires-2
-    enum-told-2
+    enum-known-sector
     started-requires
-    done-requires-3
+    found-requires
     returns-2
     returns-3
     returns-4)

@@ -16,15 +16,15 @@ enum-known-why c = search needs
 enum-told : tie.Need-enum-told
 enum-told c = search needs
 
-enum-known-row : tie.Need-enum-known-row
-enum-known-row c = search needs
+enum-known-which : tie.Need-enum-known-which
+enum-known-which c = search needs
 
 room-of-requires : tie.Need-room-of-requires
 room-of-requires c κs = search needs
 
 judge-requires : tie.Need-judge-requires
 judge-requires c κs =
-    omega (arith, part-within _ _ _ _ _ _ (c .before .before .before .before .locate .ensures) _ _ _ _ _ (c .before .before .row .given .1))
+    omega (arith, part-within _ _ _ _ _ _ (c .before .before .before .before .locate .ensures) _ _ _ _ _ (c .before .before .which .given .1))
 
 returns : tie.Need-returns
 returns c =
@@ -37,7 +37,7 @@ returns-2 c = planned _ _ _ _ _ _ _ _ (c .before .before .locate .ensures) (c .e
 returns-3 : tie.Need-returns-3
 returns-3 c =
     let d = c .before .before .before in
-    planned-at _ _ _ _ _ _ _ (d .before .before .locate .ensures) _ _ _ _ _ (d .row .given .1) _ _ (c .before .room-of .ensures .0) (c .judge .ensures)
+    planned-at _ _ _ _ _ _ _ (d .before .before .locate .ensures) _ _ _ _ _ (d .which .given .1) _ _ (c .before .room-of .ensures .0) (c .judge .ensures)
 
 pub prepare-spec : {M : Type 1} → statement M
 prepare-spec =
@@ -46,7 +46,7 @@ prepare-spec =
     locate-requires
     enum-known-why
     enum-told
-    enum-known-row
+    enum-known-which
     room-of-requires
     judge-requires
     returns

@@ -5,11 +5,11 @@ use Rattle.disk.proofs.saving.save.Statement.{statement}
 use Rattle.disk.proofs.saving.save.Tie as tie
 
 -- what the plan says, where a sector takes the bytes
-put-here : (c : tie.After-row) → let a = c .before .before .before .before .before .before .before .before .args in let p = c .row .given .0 in
-    Says (a .table .now) (a .bytes .now) (a .side) (a .cylinder) (a .id) (a .new .now) (Put (p .0) (p .1 .0) (p .1 .1 .0) (p .1 .1 .1 .0))
+put-here : (c : tie.After-which) → let a = c .before .before .before .before .before .before .before .before .args in let p = c .which .given .0 in
+    Says (a .table .now) (a .bytes .now) (a .side) (a .cylinder) (a .id) (a .new .now) (Put (p .0) (p .1 .0) (p .1 .1 .0) (p .1 .1 .1 .0) (p .1 .1 .1 .1 .0))
 put-here c =
     let a = c .before .before .before .before .before .before .before .before .args in
-    says-of (a .table .now) (a .bytes .now) _ _ _ (a .new .now) _ _ (c .before .before .prepare .ensures) (c .row .given .1)
+    says-of (a .table .now) (a .bytes .now) _ _ _ (a .new .now) _ _ (c .before .before .prepare .ensures) (c .which .given .1)
 
 prepare-requires : tie.Need-prepare-requires
 prepare-requires c κs = search needs
@@ -20,8 +20,8 @@ enum-known-why c = search needs
 enum-told : tie.Need-enum-told
 enum-told c = search needs
 
-enum-known-row : tie.Need-enum-known-row
-enum-known-row c = search needs
+enum-known-which : tie.Need-enum-known-which
+enum-known-which c = search needs
 
 splice-requires : tie.Need-splice-requires
 splice-requires c κs =
@@ -77,7 +77,7 @@ save-spec =
     prepare-requires
     enum-known-why
     enum-told
-    enum-known-row
+    enum-known-which
     splice-requires
     put-length-requires
     same-length

@@ -20,6 +20,9 @@ shared-slice-read-write-once c = search needs
 write-once-requires : tie.Need-write-once-requires Inv-loop μ-loop
 write-once-requires c κs = search needs
 
+done-of-requires : tie.Need-done-of-requires Inv-loop μ-loop
+done-of-requires c κs = search needs
+
 enum-told : tie.Need-enum-told Inv-loop μ-loop
 enum-told c = search needs
 
@@ -68,6 +71,7 @@ send-round-spec =
     loop-holds
     shared-slice-read-write-once
     write-once-requires
+    done-of-requires
     enum-told
     same-length
     same-length-2

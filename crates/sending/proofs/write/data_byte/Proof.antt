@@ -4,6 +4,7 @@ use native.Mathlib.Omega.{arith}
 use lib.ListN.{length}
 use Rattle.fields.specs.Capacities.{mostHeld}
 use Rattle.registers.specs.Settle.{accepted}
+use Rattle.registers.specs.Boxes.{silent}
 use Rattle.fields.proofs.Sizes.{size-most}
 use Rattle.sending.proofs.Sends.{set-room, set-count, set-few, set-in, data-part, data-good, data-refused}
 use borrow.Author.Needs.{needs}
@@ -48,7 +49,7 @@ returns c =
     let holds = c .before .before .before .holds in
     let len = c .before .before .len in
     λ x. data-part (args .regs) (args .b) (args .held .now) (args .table .now) (args .bytes .now) x (room start) (len .result) _ (len .ensures)
-    (c .before .if1 .taken) (c .done .ensures ∙ ap accepted (holds .ensures))
+    (c .before .if1 .taken) (c .done .ensures ∙ ap (accepted silent) (holds .ensures))
 
 slice-reshare-prefix-finish-write : tie.Need-slice-reshare-prefix-finish-write
 slice-reshare-prefix-finish-write c =
@@ -101,7 +102,7 @@ returns-2 c =
     let if1 = c .before .before .before .before .before .before .before .before .before .before .if1 in
     let finish-write = c .before .before .before .before .before .before .finish-write in
     λ x. data-good (args .regs) (args .b) (args .held .now) (args .table .now) (args .bytes .now) x (room start) (len .result) (finish-write .result) _ _
-    (len .ensures) (if1 .left) (holds .result) _ (holds .ensures) refl (c .enum-told .given .1) (finish-write .ensures x)
+    (len .ensures) (if1 .left) (holds .result) _ (holds .ensures) refl _ (c .enum-told .given .1) (finish-write .ensures x)
 
 same-length-5 : tie.Need-same-length-5
 same-length-5 c = search needs

@@ -1,11 +1,11 @@
-use mathlib.Core.Path.{_≡_, _∙_}
+use mathlib.Core.Path.{_≡_, ap, _∙_}
 use Prim.Native.Nat.{ℕ}
 use mathlib.Core.List.{List}
 use borrow.Author.Tests.{not-true, not-false}
 use Rattle.store.specs.Calls.{outcome}
 use Rattle.disk.specs.Calls.{saveOf}
 use Rattle.disk.specs.declared.answer.Saved.{Saved}
-use Rattle.registers.specs.Boxes.{Finish}
+use Rattle.registers.specs.Boxes.{silent, serves, Finish}
 use Rattle.registers.specs.View.{writingOf}
 use Rattle.registers.specs.Settle.{accepted, replied, regsChanged}
 use Rattle.commands.specs.Commands.{writeReply}
@@ -15,27 +15,27 @@ use borrow.Author.Needs.{needs}
 use Rattle.sending.proofs.write.finish_write.Statement.{statement}
 use Rattle.sending.proofs.write.finish_write.Tie as tie
 
-abbrev entry : tie.After-done → tie.Start
-entry c = c .before .before .before .before .before .before .before .before .before
+abbrev entry : tie.After-reply7 → tie.Start
+entry c = c .before .before .before .before .before .before .before .before
 
--- what the end of a write answers where nothing refuses it
-answered : (c : tie.After-done) → let g = entry c .args in
-    c .done .result ≡ accepted (replied (writeReply (writingOf (g .regs .write) (g .held .now))) (regsChanged Finish (g .regs)))
+-- the registers then, where nothing refuses it
+replied-here : (c : tie.After-reply7) → let g = entry c .args in
+    c .reply7 .result ≡ replied (writeReply (writingOf (g .regs .write) (g .held .now))) (regsChanged Finish (g .regs))
 unfolding writeReply
-answered c =
-    let f = c .before .before in
-    c .done .ensures ∙ simp (c .before .reply7 .ensures, f .from-c1 .ensures, f .before .finished .ensures)
+replied-here c =
+    let f = c .before in
+    simp (c .reply7 .ensures, f .from-c1 .ensures, f .before .finished .ensures)
 
 -- and what it answers and leaves by what `save` does
 saved-here : (k : tie.After-save) (a : Saved) (t′ b′ : List ℕ) → k .save .result ≡ a
-    → let f = k .before .before .before .before .before .before in let n = f .before .before .before .before in let s = entry f in let g = s .args in
+    → let f = k .before .before .before .before .before .before in let n = f .before .before .before in let s = entry f in let g = s .args in
     outcome (k .save .result) t′ b′ ≡ saveOf (g .table .now) (g .bytes .now) (k .before .head-of .result) (n .named .result .cylinder) (g .regs .write .id) (g .held .now)
     → (x : List ℕ) → Stores (writtenHere (g .held .now) (g .regs) (g .table .now) (g .bytes .now) x) (g .regs) (g .table .now) (g .bytes .now)
     (saveRegs (g .regs) (g .table .now) (g .bytes .now) (g .held .now) (s .pre) (n .named .result) (n .named .ensures) a) t′ b′
 saved-here k a t′ b′ e w x =
     let i = k .before .before .before .before in
     let f = i .before .before in
-    let n = f .before .before .before .before in
+    let n = f .before .before .before in
     finish-ran _ _ _ _ (entry f .pre) _ (n .named .ensures) x _ (k .before .head-of .ensures) _ _ _ _ (not-false (n .named .result .disk) (i .if1 .left)) e w
 
 named-requires : tie.Need-named-requires
@@ -58,12 +58,12 @@ done-requires c κs = search needs
 
 returns : tie.Need-returns
 returns c =
-    let f = c .before .before in
-    let n = f .before .before .before .before in
-    let s = n .before .before .before .before .before in
+    let i = c .before in
+    let f = i .before .before in
+    let n = f .before .before .before in
     λ x.
-    let q = finish-none _ _ _ _ (s .pre) _ (n .named .ensures) x (not-true (n .named .result .disk) (c .if1 .taken)) in
-    (answered f ∙ q .0, q .1)
+    let q = finish-none _ _ _ _ (entry f .pre) _ (n .named .ensures) x (not-true (n .named .result .disk) (i .if1 .taken)) in
+    (c .done .ensures ∙ ap (accepted silent) (replied-here f) ∙ q .0, q .1)
 
 head-of-requires : tie.Need-head-of-requires
 head-of-requires c κs = search needs
@@ -80,8 +80,14 @@ refused-requires c κs = search needs
 enum-told : tie.Need-enum-told
 enum-told c = search needs
 
-enum-told-2 : tie.Need-enum-told-2
-enum-told-2 c = search needs
+done-requires-2 : tie.Need-done-requires-2
+done-requires-2 c κs = search needs
+
+enum-known-sector : tie.Need-enum-known-sector
+enum-known-sector c = search needs
+
+found-requires : tie.Need-found-requires
+found-requires c κs = search needs
 
 same-length : tie.Need-same-length
 same-length c = search needs
@@ -105,10 +111,11 @@ same-length-4 c = search needs
 
 returns-3 : tie.Need-returns-3
 returns-3 c =
-    let k = c .before .before .before .before .before .before in
+    let e = c .before in
+    let k = e .before .before .before .before .before .before in
     λ x.
-    let q = saved-here k _ _ _ (c .enum-told .given .1) (k .save .ensures) x in
-    (answered (k .before .before .before .before .before .before) ∙ q .0, q .1)
+    let q = saved-here k _ _ _ (e .enum-told .given .1) (k .save .ensures) x in
+    (c .done2 .ensures ∙ ap (accepted silent) (replied-here (k .before .before .before .before .before .before)) ∙ q .0, q .1)
 
 same-length-5 : tie.Need-same-length-5
 same-length-5 c = search needs
@@ -118,10 +125,11 @@ same-length-6 c = search needs
 
 returns-4 : tie.Need-returns-4
 returns-4 c =
-    let k = c .before .before .before .before .before .before in
+    let m = c .before .before in
+    let k = m .before .before .before .before .before .before in
     λ x.
-    let q = saved-here k _ _ _ (c .enum-told2 .given .1) (k .save .ensures) x in
-    (answered (k .before .before .before .before .before .before) ∙ q .0, q .1)
+    let q = saved-here k _ _ _ (m .sector .given .1) (k .save .ensures) x in
+    (c .found .ensures ∙ ap (accepted (serves (m .sector .given .0 .0))) (replied-here (k .before .before .before .before .before .before)) ∙ q .0, q .1)
 
 pub finish-write-spec : {M : Type 1} → statement M
 finish-write-spec =
@@ -139,7 +147,9 @@ finish-write-spec =
     enum-known-why
     refused-requires
     enum-told
-    enum-told-2
+    done-requires-2
+    enum-known-sector
+    found-requires
     same-length
     same-length-2
     returns-2

@@ -3,6 +3,7 @@ use lib.ListN.{length, getD}
 use Rattle.registers.specs.declared.regs.Written.{Written}
 use Rattle.registers.specs.declared.regs.Regs.{Regs}
 use Rattle.registers.specs.Settle.{accepted}
+use Rattle.registers.specs.Boxes.{silent}
 use Rattle.codes.specs.Table.{commandOf}
 use Rattle.commands.specs.Lent.{left}
 use Rattle.sending.proofs.Sends.{command-part, command-from}
@@ -38,7 +39,7 @@ returns c =
     let command-of = c .before .before .before .before .command-of in
     let bytes-for = c .before .before .before .bytes-for in
     λ h. ap (λ (a : Written). left a h (args .table .now) (args .bytes .now) (args .transfer .now))
-    (c .done .ensures ∙ ap accepted (added .ensures))
+    (c .done .ensures ∙ ap (accepted silent) (added .ensures))
     ∙ command-part (args .regs) (args .b) h (args .table .now) (args .bytes .now) (args .transfer .now) pre (long start) (command-of .result)
     (bytes-for .result) (command-of .ensures ∙ ap (λ (y : Regs). commandOf (getD (y .command) 0 0)) (added .ensures)) (bytes-for .ensures)
     (λ q. c .before .if1 .taken (ap (λ (y : Regs). y .count) (added .ensures) ∙ q))

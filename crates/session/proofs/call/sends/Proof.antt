@@ -6,10 +6,10 @@ use Rattle.session.proofs.call.sends.Statement.{statement}
 use Rattle.session.proofs.call.sends.Tie as tie
 
 abbrev Inv-loop : tie.InvT-loop
-Inv-loop sent controller₀ table₀ content₀ transfer₀ count₀ controller table content transfer count = length transfer ≡ length transfer₀
+Inv-loop sent controller₀ table₀ content₀ transfer₀ count₀ last₀ controller table content transfer count last = length transfer ≡ length transfer₀
 
 abbrev μ-loop : tie.MeasureT-loop
-μ-loop sent controller₀ table₀ content₀ transfer₀ count₀ controller table content transfer count = length sent - count
+μ-loop sent controller₀ table₀ content₀ transfer₀ count₀ last₀ controller table content transfer count last = length sent - count
 
 loop-holds : tie.Need-loop-holds Inv-loop μ-loop
 loop-holds c = search needs

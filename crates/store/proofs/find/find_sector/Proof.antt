@@ -31,13 +31,13 @@ add-byte c =
 byte-requires : tie.Need-byte-requires
 byte-requires c κs = search needs
 
-add-get-sector : tie.Need-add-get-sector
-add-get-sector c =
+add-first-sector : tie.Need-add-first-sector
+add-first-sector c =
     let d = c .before .before in
     omega (arith, track-rows _ _ _ _ _ _ _ (found-here d) refl (d .before .before .before .before .pre) .0)
 
-get-sector-requires : tie.Need-get-sector-requires
-get-sector-requires c κs =
+first-sector-requires : tie.Need-first-sector-requires
+first-sector-requires c κs =
     let d = c .before .before in
     let h = track-rows _ _ _ _ _ _ _ (found-here d) (c .byte .ensures .0) (d .before .before .before .before .pre) in
     (h .0, (c .byte .ensures .1, h .1))
@@ -47,7 +47,7 @@ returns c = no-track _ _ _ _ (sym (c .enum-told .given .1) ∙ c .before .before
 
 returns-2 : tie.Need-returns-2
 returns-2 c =
-    track-row _ _ _ _ _ _ _ (found-here (c .before .before .before)) (c .before .byte .ensures .0) _ _ (c .get-sector .ensures)
+    track-row _ _ _ _ _ _ _ (found-here (c .before .before .before)) (c .before .byte .ensures .0) _ _ (c .first-sector .ensures)
 
 pub find-sector-spec : {M : Type 1} → statement M
 find-sector-spec =
@@ -58,7 +58,7 @@ find-sector-spec =
     enum-known-at
     add-byte
     byte-requires
-    add-get-sector
-    get-sector-requires
+    add-first-sector
+    first-sector-requires
     returns
     returns-2)

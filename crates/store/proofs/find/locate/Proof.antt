@@ -4,11 +4,11 @@ use mathlib.Core.Bool.{true}
 use native.Mathlib.Omega.{arith}
 use Rattle.tracks.specs.declared.track.Row.{Row}
 use Rattle.store.specs.Store.{wellLaid, roomOf}
-use Rattle.store.specs.Spots.{storeSpot}
-use Rattle.store.specs.declared.find.Spot.the-variants.{At}
+use Rattle.store.specs.Spots.{storeHit}
+use Rattle.store.specs.declared.find.Hit.the-variants.{At}
 use Rattle.store.specs.declared.find.Place.the-variants.{Part}
 use Rattle.store.proofs.Checks.{room-in, walkable, laid-no, laid-yes, laid-bytes}
-use Rattle.store.proofs.Founds.{part-inside, place-bad, place-found}
+use Rattle.store.proofs.Founds.{hit-inside, place-bad, place-found}
 use borrow.Author.Needs.{needs}
 use Rattle.store.proofs.find.locate.Statement.{statement}
 use Rattle.store.proofs.find.locate.Tie as tie
@@ -20,9 +20,9 @@ laid-here c =
     laid-yes _ _ _ (d .before .room-of .ensures .0) _ (d .tally .ensures) _ _ _ (c .end .given .1)
 
 -- the row that was found
-found-here : (c : tie.After-index) → let a = c .before .before .before .before .before .before .before .before .before .before .args in let p = c .index .given .0 in
-    At (p .0) (p .1 .0) (p .1 .1 .0) ≡ storeSpot (a .table .now) (a .side) (a .cylinder) (a .id)
-found-here c = sym (c .index .given .1) ∙ c .before .before .find-sector .ensures
+found-here : (c : tie.After-which) → let a = c .before .before .before .before .before .before .before .before .before .before .args in let p = c .which .given .0 in
+    At (p .0) (p .1 .0) (p .1 .1 .0) ≡ storeHit (a .table .now) (a .side) (a .cylinder) (a .id)
+found-here c = sym (c .which .given .1) ∙ c .before .before .find-sector .ensures
 
 room-of-requires : tie.Need-room-of-requires
 room-of-requires c κs = search needs
@@ -42,14 +42,14 @@ find-sector-requires c κs = walkable _ _ (laid-here (c .before))
 enum-told-2 : tie.Need-enum-told-2
 enum-told-2 c = search needs
 
-enum-known-index : tie.Need-enum-known-index
-enum-known-index c = search needs
+enum-known-which : tie.Need-enum-known-which
+enum-known-which c = search needs
 
 row-at-requires : tie.Need-row-at-requires
 row-at-requires c κs =
     let d = c .before in
     let laid = laid-here (d .before .before .before .before) in
-    omega (arith, part-inside _ _ _ _ _ laid _ _ _ (found-here d), walkable _ _ laid)
+    omega (arith, hit-inside _ _ _ _ _ laid _ _ _ (found-here d), walkable _ _ laid)
 
 cast-to : tie.Need-cast-to
 cast-to c = search needs
@@ -58,7 +58,7 @@ add-to : tie.Need-add-to
 add-to c =
     let d = c .before .before .before in
     let a = d .before .before .before .before .before .before .before .before .before .before .args in
-    let p = part-inside _ _ _ _ _ (laid-here (d .before .before .before .before)) _ _ _ (found-here d) in
+    let p = hit-inside _ _ _ _ _ (laid-here (d .before .before .before .before)) _ _ _ (found-here d) in
     omega (arith, p, room-in (a .bytes .now), ap (λ (r : Row). r .stored) (c .before .row-at .ensures))
 
 returns : tie.Need-returns
@@ -76,7 +76,7 @@ returns-3 c =
     let d = c .before .before .before in
     let e = d .before .before .before .before in
     let t = e .before .before in
-    let p = d .index .given .0 in
+    let p = d .which .given .0 in
     let all = laid-bytes _ _ _ (t .before .room-of .ensures .0) _ (t .tally .ensures) _ _ _ (e .end .given .1) in
     ap₂ (λ (n m : ℕ). Part (p .0) (p .1 .0) (p .1 .1 .0) (p .1 .1 .0 + n) m) (ap (λ (r : Row). r .stored) (c .before .row-at .ensures)) all
     ∙ place-found _ _ _ _ _ _ (laid-here e) (found-here d)
@@ -91,7 +91,7 @@ locate-spec =
     enum-known-end
     find-sector-requires
     enum-told-2
-    enum-known-index
+    enum-known-which
     row-at-requires
     cast-to
     add-to
