@@ -1,6 +1,6 @@
-//! The exported calls with their words taken apart: a byte, a flag or a length, or the refusal.
+//! The exported calls with their words taken apart: a byte, a flag, a length or a sector, or the refusal.
 
-use crate::{Refusal, SectorId, words};
+use crate::{Match, Refusal, Report, SectorId, words};
 
 /// How many bytes a controller has.
 pub fn controller_length() -> usize {
@@ -64,8 +64,11 @@ pub fn write_cmd(
     data: &mut [u8],
     transfer: &mut [u8],
     b: u8,
-) -> Result<(), Refusal> {
-    done(words::write_cmd(controller, table, data, transfer, b))
+) -> Result<Report, Refusal> {
+    let word = words::write_cmd(controller, table, data, transfer, b);
+    done(word)?;
+    let sector = found(word);
+    Ok(Report { sector })
 }
 
 /// Writes the controller out as a sheet to the buffer's start, and says how long it is.
@@ -104,33 +107,48 @@ pub fn geometry(table: &[u8], data: &[u8]) -> Result<(u8, u8), Refusal> {
     Ok((answer(word)?, (word >> 16) as u8))
 }
 
-/// Whether there is a sector at that address.
+/// Which sector of its track is found at that address.
 pub fn has_sector(
     table: &[u8],
     data: &[u8],
     side: u8,
     cylinder: u8,
     SectorId { c, h, r, n }: SectorId,
-) -> Result<bool, Refusal> {
-    flag(words::has_sector(table, data, [side, cylinder, c, h, r, n]))
+) -> Result<Option<Match>, Refusal> {
+    let word = words::has_sector(table, data, [side, cylinder, c, h, r, n]);
+    done(word)?;
+    Ok(found(word))
 }
 
-/// The bytes of the sector at that address; none also where there is no such sector, or no disk in the store.
+/// The bytes of the sector at that address, if there is one and the store holds a disk.
 pub fn sector<'a>(
     table: &[u8],
     data: &'a [u8],
     side: u8,
     cylinder: u8,
     SectorId { c, h, r, n }: SectorId,
-) -> &'a [u8] {
+) -> Option<&'a [u8]> {
     let word = words::sector(table, data, [side, cylinder, c, h, r, n]);
+    found(word)?;
     let place = high(word);
-    &data[place..place + length(word)]
+    Some(&data[place..place + stored(word)])
 }
 
 /// The length in bits 0 to 31 of a word.
 fn length(word: u64) -> usize {
     word as u32 as usize
+}
+
+/// The length of a sector's bytes in bits 0 to 15 of a word.
+fn stored(word: u64) -> usize {
+    (word as u16).into()
+}
+
+/// The sector that a word tells of, if one was found: its place in the track in bits 16 to 23, and in bits 24 to 31 how
+/// many sectors of the track bear its ID.
+fn found(word: u64) -> Option<Match> {
+    let (place, count) = ((word >> 16) as u8, (word >> 24) as u8);
+    (place != 0).then_some(Match { place, count })
 }
 
 /// The place or the length in bits 32 to 63 of a word.
@@ -283,6 +301,34 @@ mod tests {
     }
 
     #[test]
+    fn words_tell_of_a_sector_in_bits_16_to_31() {
+        let (mut table, mut data) = (vec![0; table_length()], vec![0; 184_320]);
+        assert_eq!(words::disk_new_formatted(&mut table, &mut data), 0);
+        let last = [0, 39, 39, 0, 9, 2];
+        let place: u64 = 359 * 512;
+        assert_eq!(words::has_sector(&table, &data, last), 0x0109_0001);
+        let word = words::sector(&table, &data, last);
+        assert_eq!(word, place << 32 | 0x0109_0200);
+        for none in [[1, 39, 39, 0, 9, 2], [0, 39, 39, 0, 10, 2]] {
+            assert_eq!(words::has_sector(&table, &data, none), 0);
+            assert_eq!(words::sector(&table, &data, none), 0);
+        }
+    }
+
+    #[test]
+    fn a_word_is_taken_apart() {
+        let all = u64::MAX;
+        assert_eq!(stored(all), 65_535);
+        assert_eq!(found(all & 0xffff), None);
+        let sector = Match {
+            place: 255,
+            count: 2,
+        };
+        assert_eq!(found(0x02ff_0001), Some(sector));
+        assert_eq!(found(7 << 32 | 0x02ff_0200), Some(sector));
+    }
+
+    #[test]
     fn an_empty_store_has_no_sector_and_no_place() {
         let id = SectorId {
             c: 0,
@@ -291,6 +337,6 @@ mod tests {
             n: 2,
         };
         assert_eq!(has_sector(&[], &[], 0, 0, id), Err(Refusal::BadStore));
-        assert!(sector(&[], &[], 0, 0, id).is_empty());
+        assert_eq!(sector(&[], &[], 0, 0, id), None);
     }
 }

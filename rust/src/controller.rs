@@ -3,7 +3,7 @@
 use std::fmt;
 use std::mem;
 
-use crate::{Disk, Refusal, calls};
+use crate::{Disk, Refusal, Report, calls};
 
 /// Why a call on a controller is not refused with 1: its bytes were made by the library, new or from a sheet
 /// (`new-formed`, `sheet-formed`), nobody else alters them, and the transfer room grows only, or is judged again. Over
@@ -178,7 +178,8 @@ impl Controller {
         calls::read_cmd(own, transfer)
     }
 
-    /// Sends a byte to the data port: of a command, or of the data of a write.
+    /// Sends a byte to the data port: of a command, or of the data of a write. Where it ends a Read Data, a Read
+    /// Deleted, a Write Data or a write, the [`Report`] says which sector of its track was found.
     ///
     /// Only the last byte of a command or of a write can be refused: with [`Refusal::NoTransferRoom`], or with
     /// [`Refusal::TooManyTracks`], [`Refusal::TooManySectors`] or [`Refusal::NoRoom`] where the disk would grow too
@@ -186,7 +187,24 @@ impl Controller {
     /// [`set_transfer_room`](Controller::set_transfer_room), or after the disk was taken out, given more
     /// [room](Disk::set_room) and put in again. To be rid of a command that no room can serve, send its last byte
     /// while the disk is out: the controller replies that the drive is not ready, and no disk changes.
-    pub fn write_cmd(&mut self, byte: u8) -> Result<(), Refusal> {
+    ///
+    /// ```
+    /// use kafondiye::{Controller, Disk, Match, Refusal};
+    ///
+    /// fn main() -> Result<(), Refusal> {
+    ///     let mut controller = Controller::new();
+    ///     controller.set_disk(Some(Disk::new_formatted()));
+    ///
+    ///     // Read Data of sector 5: its last byte tells which one was served.
+    ///     for byte in [0x46, 0x00, 0x00, 0x00, 0x05, 0x02, 0x05, 0x2a] {
+    ///         assert_eq!(controller.write_cmd(byte)?.sector, None);
+    ///     }
+    ///     let report = controller.write_cmd(0xff)?;
+    ///     assert_eq!(report.sector, Some(Match { place: 5, count: 1 }));
+    ///     Ok(())
+    /// }
+    /// ```
+    pub fn write_cmd(&mut self, byte: u8) -> Result<Report, Refusal> {
         let (own, transfer) = self.bytes.split_at_mut(calls::controller_length());
         let (table, data) = match &mut self.disk {
             Some(disk) => disk.buffers(),

@@ -2,13 +2,14 @@
 
 use std::fmt;
 
-use crate::{Refusal, calls};
+use crate::{Match, Refusal, calls};
 
 /// Why a question to a disk is not refused: what a load or a fresh format lays is accepted, and what came from a host
 /// was judged; after any calls it still is: `load-left`, `fresh-left`, `bytes-unbroken` (docs/PROMISES.md).
 const HOLDS: &str = "a disk's table and data hold a disk: the library has laid or judged them";
 
-/// The ID of a sector, as it stands on the track. Two sectors of a track may have the same ID; the first counts.
+/// The ID of a sector, as it stands on the track. Two sectors of a track may have the same ID; the first counts, and a
+/// [`Match`] says how many there are.
 #[derive(Clone, Copy, Debug, PartialEq, Eq, Hash)]
 pub struct SectorId {
     /// The cylinder that it names, which need not be that of its track.
@@ -109,17 +110,25 @@ impl Disk {
         calls::geometry(&self.table, &self.data).expect(HOLDS)
     }
 
-    /// Whether there is a sector with this ID on the first track of that side and cylinder.
-    pub fn has_sector(&self, side: u8, cylinder: u8, id: SectorId) -> bool {
+    /// Whether there is a sector with this ID on the first track of that side and cylinder, and which of the track it
+    /// is.
+    ///
+    /// ```
+    /// use kafondiye::{Disk, Match, SectorId};
+    ///
+    /// let disk = Disk::new_formatted();
+    /// let id = SectorId { c: 0, h: 0, r: 9, n: 2 };
+    /// assert_eq!(disk.has_sector(0, 0, id), Some(Match { place: 9, count: 1 }));
+    /// assert_eq!(disk.has_sector(1, 0, id), None);
+    /// ```
+    pub fn has_sector(&self, side: u8, cylinder: u8, id: SectorId) -> Option<Match> {
         calls::has_sector(&self.table, &self.data, side, cylinder, id).expect(HOLDS)
     }
 
     /// The bytes of the first sector with this ID on the first track of that side and cylinder. A sector that is
     /// there may have none.
     pub fn sector(&self, side: u8, cylinder: u8, id: SectorId) -> Option<&[u8]> {
-        let bytes = calls::sector(&self.table, &self.data, side, cylinder, id);
-        let found = !bytes.is_empty() || self.has_sector(side, cylinder, id);
-        found.then_some(bytes)
+        calls::sector(&self.table, &self.data, side, cylinder, id)
     }
 
     /// The table, in the layout of `docs/STORE.md`. Its length is always the same.

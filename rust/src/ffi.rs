@@ -1,7 +1,9 @@
 //! The exported calls of the static library, as C has them. `include/kafondiye.h` declares the same for C.
 //!
 //! Each answers one word: bits 0 to 7 are the byte that it answers, bits 8 to 15 the refusal number, 0 where
-//! nothing was refused. The three lengths and [`disk_sector`] answer plain numbers. A slice is a pointer and a
+//! nothing was refused. Where it tells of a sector that was found, bits 16 to 23 are its place in the track, from 1,
+//! and bits 24 to 31 how many sectors of the track bear its ID; both are 0 where none was found. A refused call
+//! answers its number alone. The three lengths and [`disk_sector`] answer plain numbers. A slice is a pointer and a
 //! length. The calls keep nothing between them: all that they know is in the bytes that are lent.
 //!
 //! # Safety
@@ -37,7 +39,8 @@ unsafe extern "C" {
         transfer: *const u8,
         transfer_length: usize,
     ) -> u64;
-    /// Sends a byte to the data port.
+    /// Sends a byte to the data port. Tells of the sector that was found where the byte ends a Read Data (of its first
+    /// sector), a Read Deleted, a Write Data or a write, and of none at every other byte.
     pub fn floppy_write_cmd(
         controller: *mut u8,
         length: usize,
@@ -110,7 +113,7 @@ unsafe extern "C" {
         data: *const u8,
         data_length: usize,
     ) -> u64;
-    /// Answers 1 where there is a sector at that address.
+    /// Answers 1 where there is a sector at that address, and tells of it.
     pub fn disk_has_sector(
         table: *const u8,
         table_length: usize,
@@ -124,7 +127,8 @@ unsafe extern "C" {
         n: u8,
     ) -> u64;
     /// Not an answer word: the place of that sector's bytes in `data` in bits 32 to 63, their number in bits 0 to
-    /// 31; 0 where there is none or the store is refused.
+    /// 15, and between them what every word tells of a sector; 0 where there is none or the store is refused, and only
+    /// then.
     pub fn disk_sector(
         table: *const u8,
         table_length: usize,

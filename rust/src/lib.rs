@@ -42,9 +42,11 @@ mod disk;
 #[allow(unsafe_code)]
 mod ffi;
 mod refusal;
+mod report;
 #[allow(unsafe_code)]
 mod words;
 
 pub use controller::Controller;
 pub use disk::{Disk, SectorId};
 pub use refusal::Refusal;
+pub use report::{Match, Report};

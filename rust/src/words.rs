@@ -170,14 +170,14 @@ pub fn geometry(table: &[u8], data: &[u8]) -> u64 {
     unsafe { ffi::disk_geometry(table.as_ptr(), table.len(), data.as_ptr(), data.len()) }
 }
 
-/// Whether there is a sector at that address.
+/// Whether there is a sector at that address, and which of its track it is.
 pub fn has_sector(table: &[u8], data: &[u8], [side, cylinder, c, h, r, n]: Address) -> u64 {
     let (table, rows) = (table.as_ptr(), table.len());
     let (data, room) = (data.as_ptr(), data.len());
     unsafe { ffi::disk_has_sector(table, rows, data, room, side, cylinder, c, h, r, n) }
 }
 
-/// Place and length of the sector at that address.
+/// Place and length of the sector at that address, and which of its track it is.
 pub fn sector(table: &[u8], data: &[u8], [side, cylinder, c, h, r, n]: Address) -> u64 {
     let (table, rows) = (table.as_ptr(), table.len());
     let (data, room) = (data.as_ptr(), data.len());

@@ -3,7 +3,7 @@
 use std::fs;
 use std::path::Path;
 
-use kafondiye::{Disk, SectorId};
+use kafondiye::{Disk, Match, SectorId};
 
 use crate::images::{self, Track};
 use crate::{FIRST, read, seek, send, with};
@@ -40,7 +40,7 @@ fn loads(name: &str, track_size: usize, count: usize, geometry: (u8, u8)) {
     let sectors = sectors(&image, track_size);
     assert_eq!(sectors.len(), count);
     for (side, cylinder, id, bytes) in sectors {
-        assert!(disk.has_sector(side, cylinder, id));
+        assert!(disk.has_sector(side, cylinder, id).is_some());
         assert_eq!(disk.sector(side, cylinder, id), Some(bytes));
     }
 }
@@ -96,7 +96,8 @@ fn a_sector_without_bytes_is_there_and_empty() {
         sectors,
     }]);
     let disk = Disk::from_image(&image).expect("a good image");
-    assert!(disk.has_sector(0, 0, FIRST));
+    let only = Match { place: 1, count: 1 };
+    assert_eq!(disk.has_sector(0, 0, FIRST), Some(only));
     assert_eq!(disk.sector(0, 0, FIRST), Some(&[][..]));
     assert_eq!(disk.sector(0, 1, FIRST), None);
     assert_eq!(disk.sector(1, 0, FIRST), None);

@@ -7,6 +7,7 @@ mod images;
 mod noise;
 mod refusals;
 mod saves;
+mod served;
 mod sessions;
 mod sheets;
 mod views;

@@ -79,7 +79,7 @@ fn a_format_replies_its_n_and_lays_its_sectors() {
     let sector = |r| disk.sector(0, 0, SectorId { r, n: 1, ..FIRST });
     assert_eq!(sector(3), Some(&[0xaa; 256][..]));
     assert_eq!(sector(4), None);
-    assert!(!disk.has_sector(0, 0, FIRST));
+    assert_eq!(disk.has_sector(0, 0, FIRST), None);
 }
 
 #[test]

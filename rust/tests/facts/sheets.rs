@@ -1,6 +1,6 @@
 //! A session that is kept, the controller as its sheet, and taken up again.
 
-use kafondiye::{Controller, Disk, Refusal, SectorId};
+use kafondiye::{Controller, Disk, Refusal, Report, SectorId};
 
 use crate::images::{self, Track};
 use crate::{FIRST, everything, fresh, pattern, read, read_data, seek, send, status, write_data};
@@ -189,13 +189,14 @@ fn session() -> Vec<Call> {
     parts.concat()
 }
 
-/// What a call answers.
-fn answer(controller: &mut Controller, call: Call) -> Result<u8, Refusal> {
-    match call {
-        Call::Send(byte) => controller.write_cmd(byte).map(|()| 0),
-        Call::Status => controller.read_status(),
-        Call::Read => controller.read_cmd(),
-    }
+/// What a call answers: a byte, or a report.
+fn answer(controller: &mut Controller, call: Call) -> Result<(u8, Report), Refusal> {
+    let byte = match call {
+        Call::Send(byte) => return controller.write_cmd(byte).map(|report| (0, report)),
+        Call::Status => controller.read_status()?,
+        Call::Read => controller.read_cmd()?,
+    };
+    Ok((byte, Report::default()))
 }
 
 #[test]
