@@ -1,7 +1,7 @@
 /*
  * Reads a sector through the ports, changes it, saves it through the ports and reads it again, on a small image that
- * is made here. In the middle of the save the controller is written out as a sheet and taken up from it. At the end the
- * disk goes home as an image. It prints what examples/save.rs prints.
+ * is made here, with two sectors of one ID. In the middle of the save the controller is written out as a sheet and
+ * taken up from it. At the end the disk goes home as an image. It prints what examples/save.rs prints.
  */
 #include <stdio.h>
 #include <stdlib.h>
@@ -14,7 +14,7 @@ enum { EXECUTING = 0x20, GIVES = 0x40, SECTOR = 256 };
 /* What the library is lent. */
 static uint8_t *controller, *table, *sheet;
 static size_t controller_length, table_length, longest_sheet;
-static uint8_t data[SECTOR], transfer[SECTOR];
+static uint8_t data[2 * SECTOR], transfer[SECTOR];
 
 /* The byte that a word answers. A refusal ends the program. */
 static uint8_t answer(uint64_t word)
@@ -31,11 +31,16 @@ static uint8_t status(void)
     return answer(floppy_read_status(controller, controller_length));
 }
 
-static void send(const uint8_t *bytes, size_t count)
+/* Sends bytes to the data port, and hands back the word of the last one. */
+static uint64_t send(const uint8_t *bytes, size_t count)
 {
-    for (size_t place = 0; place < count; place++)
-        answer(floppy_write_cmd(controller, controller_length, table, table_length, data, sizeof data, transfer,
-                                sizeof transfer, bytes[place]));
+    uint64_t word = 0;
+    for (size_t place = 0; place < count; place++) {
+        word = floppy_write_cmd(controller, controller_length, table, table_length, data, sizeof data, transfer,
+                                sizeof transfer, bytes[place]);
+        answer(word);
+    }
+    return word;
 }
 
 /* Reads from the data port as long as the status has this bit, and says how many bytes there were. */
@@ -53,8 +58,8 @@ static void print_bytes(const uint8_t *bytes, size_t count)
         printf("%s%02x", place == 0 ? "" : " ", bytes[place]);
 }
 
-/* Takes the reply, and prints how many bytes there were, the first of them, and the reply. */
-static void show(const char *what, const uint8_t *bytes, size_t count)
+/* Takes the reply, and prints how many bytes there were, the first of them, the reply, and which sector it was. */
+static void show(const char *what, const uint8_t *bytes, size_t count, uint64_t word)
 {
     uint8_t reply[7];
     size_t length = take(GIVES, reply, sizeof reply);
@@ -62,30 +67,36 @@ static void show(const char *what, const uint8_t *bytes, size_t count)
     print_bytes(bytes, count < 4 ? count : 4);
     printf(" .., reply ");
     print_bytes(reply, length);
-    printf("\n");
+    if (kafondiye_place_in_track(word) == 0)
+        printf("\n  none was found\n");
+    else
+        printf("\n  place %d of the track, %d with this ID\n", kafondiye_place_in_track(word),
+               kafondiye_count_of_id(word));
 }
 
-/* Read Data, or Write Data, of the sector with this ID. */
-static void command(uint8_t first, const uint8_t id[4])
+/* Read Data, or Write Data, of the sector with this ID: the word of its last byte. */
+static uint64_t command(uint8_t first, const uint8_t id[4])
 {
     const uint8_t bytes[9] = {first, 0x00, id[0], id[1], id[2], id[3], id[2], 0x2a, 0xff};
-    send(bytes, sizeof bytes);
+    return send(bytes, sizeof bytes);
 }
 
-/* Loads an extended image with one track, which has one sector of 256 bytes: 00, 01, 02 and so on. */
+/* Loads an extended image with one track, which has two sectors of one ID: 00, 01, 02 and so on, and EE. */
 static void load(void)
 {
     static const uint8_t track[] = {'T', 'r', 'a', 'c', 'k', '-', 'I', 'n', 'f', 'o', '\r', '\n', 0, 0, 0, 0,
-                                    0,   0,   0,   0,   1,   1,   0x52, 0xe5, /* size 1, one sector, gap, filler */
-                                    0,   0,   1,   1,   0,   0,   0,    1};   /* c, h, r, n, st1, st2, stored length */
-    static uint8_t image[0x200 + SECTOR] = "EXTENDED CPC DSK File\r\nDisk-Info\r\n";
+                                    0,   0,   0,   0,   1,   2,   0x52, 0xe5, /* size 1, two sectors, gap, filler */
+                                    0,   0,   1,   1,   0,   0,   0,    1,    /* c, h, r, n, st1, st2, stored length */
+                                    0,   0,   1,   1,   0,   0,   0,    1};
+    static uint8_t image[0x200 + 2 * SECTOR] = "EXTENDED CPC DSK File\r\nDisk-Info\r\n";
     uint64_t geometry;
     image[0x30] = 1; /* tracks */
     image[0x31] = 1; /* sides */
-    image[0x34] = 2; /* the track's size in units of 256 bytes */
+    image[0x34] = 3; /* the track's size in units of 256 bytes */
     memcpy(image + 0x100, track, sizeof track);
     for (size_t place = 0; place < SECTOR; place++)
         image[0x200 + place] = (uint8_t)place;
+    memset(image + 0x200 + SECTOR, 0xee, SECTOR);
     answer(disk_new(image, sizeof image, table, table_length, data, sizeof data));
     geometry = disk_geometry(table, table_length, data, sizeof data);
     printf("image: %d bytes, geometry (%d, %d)\n", (int)sizeof image, answer(geometry),
@@ -122,7 +133,7 @@ static void pause_and_resume(void)
 /* Writes the disk as an extended image, and says whether the disk that this loads as has these bytes in the sector. */
 static int go_home(const uint8_t id[4], const uint8_t *saved, size_t count)
 {
-    static uint8_t image[0x200 + SECTOR];
+    static uint8_t image[0x200 + 2 * SECTOR];
     uint64_t word = disk_write_image(table, table_length, data, sizeof data, image, sizeof image);
     size_t length = kafondiye_image_length(word);
     answer(word);
@@ -131,7 +142,8 @@ static int go_home(const uint8_t id[4], const uint8_t *saved, size_t count)
     memset(data, 0xff, sizeof data);
     answer(disk_new(image, length, table, table_length, data, sizeof data));
     word = disk_sector(table, table_length, data, sizeof data, 0, 0, id[0], id[1], id[2], id[3]);
-    return kafondiye_length(word) == count && memcmp(data + kafondiye_place(word), saved, count) == 0;
+    return kafondiye_place_in_track(word) == 1 && kafondiye_length(word) == count &&
+           memcmp(data + kafondiye_place(word), saved, count) == 0;
 }
 
 /* What the library says of lengths, and the bytes for them. */
@@ -150,6 +162,7 @@ int main(void)
 {
     uint8_t id[4], bytes[SECTOR], again[SECTOR];
     size_t count, length;
+    uint64_t word;
     if (!lend())
         return EXIT_FAILURE;
     load();
@@ -158,20 +171,20 @@ int main(void)
     answer(floppy_set_disk(controller, controller_length, 1));
     find(id);
 
-    command(0x46, id);
+    word = command(0x46, id);
     count = take(EXECUTING, bytes, sizeof bytes);
-    show("read", bytes, count);
-    command(0x45, id);
+    show("read", bytes, count, word);
+    word = command(0x45, id);
     for (length = 0; length < count && (status() & EXECUTING) != 0; length++) {
         if (length == count / 2)
             pause_and_resume();
         bytes[length] = (uint8_t)~bytes[length];
-        send(bytes + length, 1);
+        word = send(bytes + length, 1);
     }
-    show("saved", bytes, length);
-    command(0x46, id);
+    show("saved", bytes, length, word);
+    word = command(0x46, id);
     count = take(EXECUTING, again, sizeof again);
-    show("read again", again, count);
+    show("read again", again, count, word);
 
     if (count != length || memcmp(again, bytes, count) != 0)
         return EXIT_FAILURE;

@@ -18,8 +18,15 @@
  * which one may be changed. A length that does not fit and bytes that cannot be are refused, so no call needs a
  * check before it.
  *
- * Unless its comment says otherwise, a call answers a word: see kafondiye_byte and kafondiye_refusal_of. A refused call
- * has changed no byte.
+ * Unless its comment says otherwise, a call answers a word:
+ *
+ *   bits 0 to 7     the byte that it answers: kafondiye_byte
+ *   bits 8 to 15    why it was refused: kafondiye_refusal_of
+ *   bits 16 to 31   of a sector that was found, its place in the track and how many sectors of the track bear its ID:
+ *                   kafondiye_place_in_track, kafondiye_count_of_id
+ *   bits 32 to 63   how long a sheet or an image is: kafondiye_sheet_length, kafondiye_image_length
+ *
+ * What a call does not tell is 0. A refused call answers its number alone, and has changed no byte.
  */
 #ifndef KAFONDIYE_H
 #define KAFONDIYE_H
@@ -66,10 +73,25 @@ static inline uint8_t kafondiye_other_sides(uint64_t word)
     return (uint8_t)(word >> 16 & 0xff);
 }
 
-/* How many bytes a sector has, out of the answer of disk_sector: bits 0 to 31. */
+/*
+ * Which sector of its track was found, from 1, out of the answer of floppy_write_cmd, disk_has_sector or disk_sector; 0
+ * where none was found, or the call tells of none: bits 16 to 23.
+ */
+static inline uint8_t kafondiye_place_in_track(uint64_t word)
+{
+    return (uint8_t)(word >> 16 & 0xff);
+}
+
+/* How many sectors of that track bear its ID, itself among them, out of the same answers: bits 24 to 31. */
+static inline uint8_t kafondiye_count_of_id(uint64_t word)
+{
+    return (uint8_t)(word >> 24 & 0xff);
+}
+
+/* How many bytes a sector has, out of the answer of disk_sector: bits 0 to 15. */
 static inline size_t kafondiye_length(uint64_t word)
 {
-    return (size_t)(word & 0xffffffff);
+    return (size_t)(word & 0xffff);
 }
 
 /* At which place of the data buffer they begin, out of the answer of disk_sector: bits 32 to 63. */
@@ -132,6 +154,10 @@ uint64_t floppy_read_cmd(uint8_t *controller, size_t length, const uint8_t *tran
 /*
  * Sends a byte to the data port: of a command, or of the data of a write. A refused byte is not taken and may be
  * sent again, with more room. With no disk in the drive table and data are not looked at and may have length 0.
+ *
+ * The last byte of a Read Data or Read Deleted, of a Write Data and of the data of a write tells which sector of its
+ * track was found (of a read, the first; at the end of a write, on the disk that is in then): kafondiye_place_in_track,
+ * kafondiye_count_of_id. Both are 0 where none was found or the drive is not ready, and at every other byte.
  */
 uint64_t floppy_write_cmd(uint8_t *controller, size_t length, uint8_t *table, size_t table_length, uint8_t *data,
                           size_t data_length, uint8_t *transfer, size_t transfer_length, uint8_t b);
@@ -176,15 +202,16 @@ uint64_t disk_write_image(const uint8_t *table, size_t table_length, const uint8
 uint64_t disk_geometry(const uint8_t *table, size_t table_length, const uint8_t *data, size_t data_length);
 
 /*
- * Answers 1 where there is a sector with the ID c, h, r, n on the first track of that side and cylinder, 0 where
- * there is none.
+ * Answers 1 where there is a sector with the ID c, h, r, n on the first track of that side and cylinder, and which of
+ * the track it is: kafondiye_place_in_track, kafondiye_count_of_id. 0 where there is none.
  */
 uint64_t disk_has_sector(const uint8_t *table, size_t table_length, const uint8_t *data, size_t data_length,
                          uint8_t side, uint8_t cylinder, uint8_t c, uint8_t h, uint8_t r, uint8_t n);
 
 /*
- * Finds the bytes of that sector in the data buffer: kafondiye_place, kafondiye_length. Not a word: 0 where there is
- * none or the store is refused. A sector may have no bytes; disk_has_sector tells it from one that is not there.
+ * Finds the bytes of that sector in the data buffer: kafondiye_place, kafondiye_length; and which of the track it is:
+ * kafondiye_place_in_track, kafondiye_count_of_id. Not a word as above: 0 where there is none or the store is refused,
+ * and only then. A sector that is there may have no bytes, but it has a place in its track.
  */
 uint64_t disk_sector(const uint8_t *table, size_t table_length, const uint8_t *data, size_t data_length,
                      uint8_t side, uint8_t cylinder, uint8_t c, uint8_t h, uint8_t r, uint8_t n);
