@@ -90,7 +90,7 @@ fn run_call(call: &Call, pair: &mut Pair, chance: &mut Chance) -> Checked {
         Call::Status(times) => (0..*times).try_for_each(|_| pair.status()),
         Call::Read(times) => (0..*times).try_for_each(|_| pair.read()),
         Call::Send { times, bytes } => {
-            (0..*times).try_for_each(|_| bytes.iter().try_for_each(|&b| send(pair, b)))
+            (0..*times).try_for_each(|_| bytes.iter().try_for_each(|&b| pair.taken(b)))
         }
         Call::Ask => pair.ask(),
         Call::Boxes => pair.compare_data(false),
@@ -106,13 +106,5 @@ fn run_call(call: &Call, pair: &mut Pair, chance: &mut Chance) -> Checked {
         Call::Lend { .. } | Call::Table { .. } | Call::Number { .. } => {
             Err(Difference::new(call, "a call that the Rust has", "another"))
         }
-    }
-}
-
-/// Sends a byte that is not refused.
-fn send(pair: &mut Pair, b: u8) -> Checked {
-    match pair.send(b)? {
-        0 => Ok(()),
-        number => Err(Difference::new(format!("send {b:02x}"), "taken", number)),
     }
 }

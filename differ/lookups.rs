@@ -6,6 +6,7 @@ use raze::disk::{Disk, Sector};
 use raze::floppy::SectorId;
 
 use crate::chance::Chance;
+use crate::found::Match;
 use crate::host::{self, Address};
 use crate::store::Store;
 use crate::watch::{Checked, Difference, Watch};
@@ -99,19 +100,30 @@ fn beside(mut address: Address, chance: &mut Chance) -> Address {
     address
 }
 
-fn compare_at(disk: &Disk, store: &Store, address: Address, watch: &mut Watch) -> Checked {
+/// Compares what is found at an address: yes or no, the place and the length of the
+/// bytes, and which sector of its track it is.
+pub fn compare_at(disk: &Disk, store: &Store, address: Address, watch: &mut Watch) -> Checked {
     let [side, cylinder, c, h, r, n] = address;
-    let found = rules::find(disk, side, cylinder, &SectorId { c, h, r, n });
+    let id = SectorId { c, h, r, n };
+    let sector = rules::find(disk, side, cylinder, &id);
+    let found = Match::find(disk, side, cylinder, &id);
+    watch.found(["looked up", "looked up, equal IDs"], found);
     let (table, data) = (store.table.part(), store.data.part());
     watch.call("has_sector");
     let answer = host::has_sector(table, data, address);
-    let call = format_args!("has_sector {address:?}");
-    same(call, found.is_some().into(), answer, watch)?;
+    let expected = u64::from(sector.is_some()) | Match::word(found);
+    same(
+        format_args!("has_sector {address:?}"),
+        expected,
+        answer,
+        watch,
+    )?;
     watch.call("sector");
     let answer = host::sector(table, data, address);
-    let expected = found.map_or(0, |sector| {
+    let bytes = sector.map_or(0, |sector| {
         place(disk, sector) << 32 | sector.data.len() as u64
     });
+    let expected = bytes | Match::word(found);
     same(format_args!("sector {address:?}"), expected, answer, watch)
 }
 

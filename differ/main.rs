@@ -12,6 +12,8 @@ mod dsk;
 mod dump;
 #[path = "../oracle/errors.rs"]
 mod errors;
+#[path = "../oracle/found.rs"]
+mod found;
 #[path = "../oracle/home.rs"]
 mod home;
 #[path = "../oracle/home_edges.rs"]
@@ -42,6 +44,7 @@ mod lookups;
 mod made;
 mod pair;
 mod rules;
+mod served;
 mod sessions;
 mod sheets;
 mod sizes;

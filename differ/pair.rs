@@ -12,7 +12,8 @@ use raze::floppy::Floppy;
 use crate::buffer::Buffer;
 use crate::capacities::Totals;
 use crate::chance::Chance;
-use crate::host::{self, CONTROLLER};
+use crate::found::Match;
+use crate::host::{self, Address, CONTROLLER};
 use crate::rules::{self, Lent, Look};
 use crate::store::Store;
 use crate::view::{HELD, Rust, View};
@@ -34,6 +35,8 @@ pub struct Pair<'a> {
     pub transfer: Buffer,
     /// How many bytes the last Read Data or the last sheet laid in the transfer buffer.
     filled: usize,
+    /// The sector that the last byte sent told of.
+    found: Option<Match>,
     watch: &'a mut Watch,
 }
 
@@ -60,6 +63,7 @@ impl Pair<'_> {
             slot: None,
             transfer,
             filled: 0,
+            found: None,
             watch,
         })
     }
@@ -72,6 +76,11 @@ impl Pair<'_> {
     /// How many bytes the last Read Data or the last sheet laid in the transfer buffer.
     pub fn filled(&self) -> usize {
         self.filled
+    }
+
+    /// The sector that the last byte sent told of, on both sides.
+    pub fn found(&self) -> Option<Match> {
+        self.found
     }
 
     /// Which disk is in the drive.
@@ -168,10 +177,21 @@ impl Pair<'_> {
         self.send_with(b, None)
     }
 
+    /// Sends a byte that is not refused.
+    pub fn taken(&mut self, b: u8) -> Checked {
+        let number = self.send(b)?;
+        if number == 0 {
+            return Ok(());
+        }
+        let (call, ours) = (format!("send {b:02x}"), format!("refusal {number}"));
+        Err(Difference::new(call, "a byte taken", ours))
+    }
+
     /// Sends a byte. Where a table is named, which breaks the layout, it is lent in
     /// place of the good one.
     pub fn send_with(&mut self, b: u8, table: Option<&[u8]>) -> Checked<u8> {
         let look = rules::look(&self.rust, b);
+        self.found = None;
         let refusal = self
             .lent(table.is_none())
             .refusal(&self.rust, look.as_ref());
@@ -186,15 +206,17 @@ impl Pair<'_> {
             self.refused(format_args!("send {b:02x}"), refusal, answer, &before)?;
             return Ok(refusal);
         }
-        let served = look.as_ref().is_some_and(|look| look.serves(&self.rust));
+        self.found = look.as_ref().and_then(|look| look.finds(&self.rust));
+        self.watch.found(["told", "told, equal IDs"], self.found);
         self.rust.write_cmd(b);
-        self.same(format_args!("send {b:02x}"), 0, answer)?;
+        let expected = Match::word(self.found);
+        self.same(format_args!("send {b:02x}"), expected, answer)?;
         if let Some(look) = &look {
             self.say(look.name());
         }
         match look {
             Some(Look::Format(_) | Look::Save { .. }) => self.compare_disk()?,
-            Some(Look::Read { .. }) => self.compare_data(served)?,
+            Some(Look::Read { .. }) => self.compare_data(self.found.is_some())?,
             _ => {}
         }
         Ok(0)
@@ -303,6 +325,16 @@ impl Pair<'_> {
             }
         }
         Ok(())
+    }
+
+    /// Compares what is found at an address of the disk in the drive, which is lent whole.
+    pub fn lookup(&mut self, address: Address) -> Checked {
+        match (self.slot, self.rust.disk()) {
+            (Some(slot), Some(disk)) => {
+                lookups::compare_at(disk, &self.disks[slot].store, address, self.watch)
+            }
+            _ => Ok(()),
+        }
     }
 
     /// Compares everything in the end: the disks that are out, and that in the

@@ -5,13 +5,14 @@ use raze::disk::{Disk, Sector, Track};
 use raze::floppy::{Floppy, SectorId};
 
 use crate::capacities::{Totals, transfer_refusal};
+use crate::found::Match;
 
 /// What a byte has the store looked at for.
 pub enum Look {
     /// Read Data or Read Deleted, from this sector up to a number.
     Read { head: u8, id: SectorId, eot: u8 },
-    /// A Write Data begins.
-    Begin,
+    /// A Write Data begins, to this sector.
+    Begin { head: u8, id: SectorId },
     /// Read ID.
     Id,
     /// Format, to this track.
@@ -25,19 +26,27 @@ impl Look {
     pub fn name(&self) -> &'static str {
         match self {
             Look::Read { .. } => "that was a Read Data",
-            Look::Begin => "that was a Write Data",
+            Look::Begin { .. } => "that was a Write Data",
             Look::Id => "that was a Read ID",
             Look::Format(_) => "that was a Format",
             Look::Save { .. } => "that was the last byte of a write",
         }
     }
 
-    /// Whether this is a read that finds its first sector.
-    pub fn serves(&self, rust: &Floppy) -> bool {
-        let (Look::Read { head, id, .. }, Some(disk)) = (self, rust.disk()) else {
-            return false;
-        };
-        find(disk, *head, rust.current_track(), id).is_some()
+    /// The head and the ID of the sector that it searches for, if it searches for one.
+    fn wanted(&self) -> Option<(u8, &SectorId)> {
+        match self {
+            Look::Read { head, id, .. } | Look::Begin { head, id } | Look::Save { head, id } => {
+                Some((*head, id))
+            }
+            Look::Id | Look::Format(_) => None,
+        }
+    }
+
+    /// Which sector it finds, which the word tells: of a read its first one.
+    pub fn finds(&self, rust: &Floppy) -> Option<Match> {
+        let (head, id) = self.wanted()?;
+        Match::find(rust.disk()?, head, rust.current_track(), id)
     }
 }
 
@@ -61,7 +70,7 @@ pub fn look(rust: &Floppy, b: u8) -> Option<Look> {
             let (head, id) = (head_of(c1), SectorId { c, h, r, n });
             match (first & 0x1f, first & 0x3f) {
                 (0x06 | 0x0c, _) => Some(Look::Read { head, id, eot }),
-                (_, 0x05) => Some(Look::Begin),
+                (_, 0x05) => Some(Look::Begin { head, id }),
                 _ => None,
             }
         }
@@ -104,7 +113,7 @@ impl Lent {
         }
         let cylinder = rust.current_track();
         match look {
-            Look::Begin | Look::Id => None,
+            Look::Begin { .. } | Look::Id => None,
             Look::Format(track) => Totals::with(disk, track).refusal_in(self.data),
             Look::Save { head, id } => self.save_refusal(disk, *head, cylinder, id),
             Look::Read { head, id, eot } => {

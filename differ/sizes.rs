@@ -66,12 +66,5 @@ fn play(cylinder: u8, n: u8, pair: &mut Pair) -> Checked {
 
 /// Sends the bytes, of which none is refused.
 fn send(pair: &mut Pair, bytes: &[u8]) -> Checked {
-    for &b in bytes {
-        let refusal = pair.send(b)?;
-        if refusal != 0 {
-            let (call, ours) = (format!("send {b:02x}"), format!("refusal {refusal}"));
-            return Err(Difference::new(call, "a byte taken", ours));
-        }
-    }
-    Ok(())
+    bytes.iter().try_for_each(|&b| pair.taken(b))
 }

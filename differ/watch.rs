@@ -4,6 +4,8 @@ use std::collections::BTreeMap;
 use std::fmt;
 use std::io::{self, Write};
 
+use crate::found::Match;
+
 /// Where the two sides do not agree.
 pub struct Difference {
     /// What was called, or looked at.
@@ -96,6 +98,17 @@ impl Watch {
     /// One more of this name.
     pub fn count(&mut self, name: &'static str) {
         *self.counts.entry(name).or_default() += 1;
+    }
+
+    /// One more sector found, if one was, and one more that is not the only one with its
+    /// ID, under these names.
+    pub fn found(&mut self, [all, equal]: [&'static str; 2], found: Option<Match>) {
+        if let Some(Match { count, .. }) = found {
+            self.count(all);
+            if count > 1 {
+                self.count(equal);
+            }
+        }
     }
 
     /// One more refusal with this number, or none where it is 0.

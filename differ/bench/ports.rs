@@ -51,7 +51,7 @@ impl Ours {
 
 /// The byte of an answer, which is no refusal.
 fn taken(answer: u64) -> u8 {
-    assert!(answer < 256, "refused: {answer:#x}");
+    assert!(answer >> 8 & 0xff == 0, "refused: {answer:#x}");
     answer as u8
 }
 
