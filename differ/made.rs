@@ -32,6 +32,11 @@ pub fn small(chance: &mut Chance) -> Vec<u8> {
     plans::small(chance).image()
 }
 
+/// A good image with a track of more sectors than a list has place for, or about so.
+pub fn long_list(chance: &mut Chance) -> Vec<u8> {
+    plans::long_list(chance).image()
+}
+
 /// A good image close to the largest number of tracks, of sectors, or of both.
 pub fn nearly_full(chance: &mut Chance) -> Vec<u8> {
     let plan = match chance.below(3) {

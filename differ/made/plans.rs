@@ -77,7 +77,7 @@ fn normal(number: u8, sides: u8, chance: &mut Chance) -> Plan {
 }
 
 /// A track for a place in the table: mostly with the cylinder and side that
-/// belong there, and each number once.
+/// belong there, and mostly each number once.
 fn track(
     slot: u8,
     sides: u8,
@@ -93,7 +93,7 @@ fn track(
     }
     let number = chance.small(8);
     let own = |chance: &mut Chance| chance.once_in(20);
-    let sectors = (1..=number)
+    let ids = (1..=number)
         .map(|r| {
             let c = if own(chance) {
                 chance.small(3)
@@ -103,14 +103,33 @@ fn track(
             let h = if own(chance) { chance.small(2) } else { side };
             let r = if own(chance) { chance.small(6) } else { r };
             let n = chance.of(&[0, 0, 0, 0, 1, 1, 2, 3, 4, 7, 255]);
-            make([c, h, r, n], chance)
+            [c, h, r, n]
         })
         .collect();
+    let ids = repeated(ids, chance).into_iter();
+    let sectors = ids.map(|id| make(id, chance)).collect();
     let mut track = Track::new(cylinder, side, sectors);
     track.size = chance.byte();
     track.gap = chance.byte();
     track.filler = chance.byte();
     track
+}
+
+/// The IDs of a track; of one in three tracks some stand there again in place of
+/// others, or one in place of all.
+fn repeated(mut ids: Vec<[u8; 4]>, chance: &mut Chance) -> Vec<[u8; 4]> {
+    if ids.is_empty() || !chance.once_in(3) {
+        return ids;
+    }
+    if chance.once_in(6) {
+        return vec![ids[0]; ids.len()];
+    }
+    for _ in 0..1 + chance.below(ids.len()) {
+        let again = chance.of(&ids);
+        let place = chance.below(ids.len());
+        ids[place] = again;
+    }
+    ids
 }
 
 /// A sector with a stored length that mostly is its size.
@@ -180,12 +199,13 @@ fn many_rows(chance: &mut Chance) -> Plan {
 
 /// A track with more sectors than the list has place for, so that it runs into
 /// the data, and perhaps another track behind.
-fn long_list(chance: &mut Chance) -> Plan {
+pub fn long_list(chance: &mut Chance) -> Plan {
     let number = chance.of(&[28, 29, 30, 31, 60, 127, 255]);
     let length = chance.of(&[0, 1, 9, 128]);
     let cylinder = chance.small(3);
     let ids = (1..=number).map(|r| [cylinder, 0, r, chance.small(3)]);
-    let sectors: Vec<Sector> = ids.map(|id| Sector::stored(id, length)).collect();
+    let ids = repeated(ids.collect(), chance).into_iter();
+    let sectors = ids.map(|id| Sector::stored(id, length)).collect();
     let first = Track::new(cylinder, 0, sectors);
     let blocks = blocks(&first, chance);
     let second = track(1, 1, chance, stored);
