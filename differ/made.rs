@@ -32,6 +32,11 @@ pub fn small(chance: &mut Chance) -> Vec<u8> {
     plans::small(chance).image()
 }
 
+/// A good image of a few tracks on which most IDs stand more than once.
+pub fn few_ids(chance: &mut Chance) -> Vec<u8> {
+    plans::few_ids(chance).image()
+}
+
 /// A good image with a track of more sectors than a list has place for, or about so.
 pub fn long_list(chance: &mut Chance) -> Vec<u8> {
     plans::long_list(chance).image()

@@ -92,6 +92,7 @@ fn command(first: u8, c1: u8, number: u8, eot: u8) -> [u8; 9] {
 /// Every search for the wanted sector, on this disk.
 fn on_disk(case: &Case, watch: &mut Watch) -> Checked {
     with(&[&case.tracks], watch, |pair| {
+        tells(pair, &[0x0f, 0, case.cylinder], None)?;
         pair.lookup(case.address())?;
         searches(case, pair)?;
         not_ready(case, pair)?;
@@ -134,12 +135,11 @@ fn not_ready(case: &Case, pair: &mut Pair) -> Checked {
 
 /// A Format, which tells of none and leaves one of each number, and reads behind it.
 fn formatted(case: &Case, count: u8, pair: &mut Pair) -> Checked {
-    let (c1, side) = (case.c1(), case.side);
+    let (c1, c, h) = (case.c1(), case.cylinder, case.side);
     tells(pair, &[0x4d, c1, 0, count, 0x2a, 0xe5], None)?;
-    for (number, told) in [(1, at(1, 1)), (count, at(count.into(), 1)), (0, None)] {
-        let read = [0x46, c1, 0, side, number, 0, number, 0x2a, 0xff];
-        tells(pair, &read, told)?;
-        pair.lookup([side, 0, 0, side, number, 0])?;
+    for (r, told) in [(1, at(1, 1)), (count, at(count.into(), 1)), (0, None)] {
+        tells(pair, &[0x46, c1, c, h, r, 0, r, 0x2a, 0xff], told)?;
+        pair.lookup([h, c, c, h, r, 0])?;
     }
     Ok(())
 }

@@ -100,6 +100,7 @@ fn disks(kind: u8, chance: &mut Chance, watch: &mut Watch) -> Checked<Vec<Kept>>
                 _ if chance.once_in(12) => None,
                 _ if chance.once_in(30) => Some(made::usual(chance.once_in(2))),
                 _ if chance.once_in(12) => Some(made::long_list(chance)),
+                _ if chance.once_in(3) => Some(made::few_ids(chance)),
                 _ => Some(made::small(chance)),
             };
             let spare = match kind {

@@ -132,6 +132,24 @@ fn repeated(mut ids: Vec<[u8; 4]>, chance: &mut Chance) -> Vec<[u8; 4]> {
     ids
 }
 
+/// A few tracks of cylinders 0 and 1, some of them equal, whose sectors bear few IDs. A
+/// search finds one of several, and on another such disk not the same one.
+pub fn few_ids(chance: &mut Chance) -> Plan {
+    let tracks: Vec<Track> = (0..2 + chance.below(4))
+        .map(|_| {
+            let (cylinder, side) = (chance.small(2), chance.of(&[0, 0, 0, 1]));
+            let number = 1 + chance.below(9);
+            let sectors = (0..number).map(|_| {
+                let r = 1 + chance.small(4);
+                stored([cylinder, side, r, 0], chance)
+            });
+            let sectors = sectors.collect();
+            Track::new(cylinder, side, sectors)
+        })
+        .collect();
+    Plan::packed(&tracks)
+}
+
 /// A sector with a stored length that mostly is its size.
 fn stored(id: [u8; 4], chance: &mut Chance) -> Sector {
     let size: u16 = 128 << (id[3] & 3);

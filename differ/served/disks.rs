@@ -7,11 +7,12 @@ use crate::host::Address;
 /// The ID that is looked for.
 pub const WANTED: [u8; 4] = [0, 0, 1, 0];
 
-/// A disk: its name, its tracks, the side on which the wanted ID is looked for at
-/// cylinder 0, and what is told of it.
+/// A disk: its name, its tracks, the cylinder and side where the wanted ID is looked
+/// for, and what is told of it.
 pub struct Case {
     pub name: &'static str,
     pub tracks: Vec<Track>,
+    pub cylinder: u8,
     pub side: u8,
     pub told: Option<Match>,
 }
@@ -20,7 +21,7 @@ impl Case {
     /// Where the wanted sector is looked for.
     pub fn address(&self) -> Address {
         let [c, h, r, n] = WANTED;
-        [self.side, 0, c, h, r, n]
+        [self.side, self.cylinder, c, h, r, n]
     }
 
     /// The second byte of a command for drive 0 and this side.
@@ -50,6 +51,7 @@ pub fn all() -> Vec<Case> {
     let mut all = short();
     all.extend(long());
     all.extend(tracks());
+    all.extend(elsewhere());
     all.extend(beside());
     all
 }
@@ -58,6 +60,7 @@ fn case(name: &'static str, tracks: Vec<Track>, told: Option<Match>) -> Case {
     Case {
         name,
         tracks,
+        cylinder: 0,
         side: 0,
         told,
     }
@@ -90,26 +93,39 @@ fn long() -> Vec<Case> {
     ]
 }
 
-/// Equal tracks, of which the first is searched, and tracks of other sides.
+/// Equal tracks, of which the first is searched.
 fn tracks() -> Vec<Case> {
     let [two, three] = [numbers([2, 1]), numbers([1, 1, 1])];
-    let first = vec![two.clone(), three.clone()];
+    let first = vec![two, three.clone()];
     let other = vec![numbers([2]), three.clone()];
-    let empty = vec![numbers([]), three.clone()];
-    let sides = vec![two, track(1, [[0, 0, 9, 0], WANTED, WANTED])];
+    let empty = vec![numbers([]), three];
     vec![
         case("equal tracks", first, at(2, 1)),
         case("equal tracks, the second has it", other, None),
         case("equal tracks, the first is empty", empty, None),
         case("no track", vec![], None),
-        Case {
-            side: 1,
-            ..case("side 1", sides, at(2, 2))
-        },
-        Case {
-            side: 1,
-            ..case("side 1 is not there", vec![three], None)
-        },
+    ]
+}
+
+/// Tracks of another side, and of a cylinder that the ID does not name.
+fn elsewhere() -> Vec<Case> {
+    let two = numbers([2, 1]);
+    let side = track(1, [[0, 0, 9, 0], WANTED, WANTED]);
+    let cylinder = Track {
+        cylinder: 3,
+        ..numbers([9, 8, 1, 1])
+    };
+    let at_side = |case| Case { side: 1, ..case };
+    let at_cylinder = |case| Case {
+        cylinder: 3,
+        ..case
+    };
+    let [sides, cylinders] = [vec![two.clone(), side], vec![two.clone(), cylinder]];
+    vec![
+        at_side(case("side 1", sides, at(2, 2))),
+        at_side(case("side 1 is not there", vec![two.clone()], None)),
+        at_cylinder(case("cylinder 3", cylinders, at(3, 2))),
+        at_cylinder(case("cylinder 3 is not there", vec![two], None)),
     ]
 }
 
