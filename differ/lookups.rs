@@ -107,7 +107,7 @@ pub fn compare_at(disk: &Disk, store: &Store, address: Address, watch: &mut Watc
     let id = SectorId { c, h, r, n };
     let sector = rules::find(disk, side, cylinder, &id);
     let found = Match::find(disk, side, cylinder, &id);
-    watch.found(["looked up", "looked up, equal IDs"], found);
+    watch.found(["sector looked up", "equal IDs looked up"], found);
     let (table, data) = (store.table.part(), store.data.part());
     watch.call("has_sector");
     let answer = host::has_sector(table, data, address);

@@ -207,7 +207,8 @@ impl Pair<'_> {
             return Ok(refusal);
         }
         self.found = look.as_ref().and_then(|look| look.finds(&self.rust));
-        self.watch.found(["told", "told, equal IDs"], self.found);
+        self.watch
+            .found(["sector told", "equal IDs told"], self.found);
         self.rust.write_cmd(b);
         let expected = Match::word(self.found);
         self.same(format_args!("send {b:02x}"), expected, answer)?;

@@ -316,6 +316,23 @@ mod tests {
     }
 
     #[test]
+    fn a_refused_read_answers_its_number_alone_and_tells_of_its_sector_when_it_is_taken() {
+        let (mut table, mut data) = (vec![0; table_length()], vec![0; 184_320]);
+        let mut own = vec![0; controller_length()];
+        assert_eq!(words::disk_new_formatted(&mut table, &mut data), 0);
+        assert_eq!(words::set_disk(&mut own, 1), 0);
+        let mut send = |room, b| {
+            let mut transfer = vec![0; room];
+            words::write_cmd(&mut own, &mut table, &mut data, &mut transfer, b)
+        };
+        for b in [0x46, 0x00, 0x00, 0x00, 0x05, 0x02, 0x05, 0x2a] {
+            assert_eq!(send(512, b), 0);
+        }
+        assert_eq!(send(511, 0xff), 9 << 8);
+        assert_eq!(send(512, 0xff), 0x0105_0000);
+    }
+
+    #[test]
     fn a_word_is_taken_apart() {
         let all = u64::MAX;
         assert_eq!(stored(all), 65_535);
