@@ -1,6 +1,5 @@
-//! Which sector is served, before the cases of a run: disks with equal IDs, and what
-//! is told of them by hand, at each byte of the commands that search, at every other
-//! byte, and by the lookups.
+//! Which sector is served, before the cases of a run: lookups and commands on disks with
+//! equal IDs. What each byte tells is also told by hand.
 
 mod disks;
 
@@ -69,7 +68,7 @@ fn tells(pair: &mut Pair, bytes: &[u8], told: Option<Match>) -> Checked {
     step(pair, last, told)
 }
 
-/// Sends a byte that is taken, and tells this by hand.
+/// Sends a byte that is taken, and tells of this sector, or of none.
 fn step(pair: &mut Pair, b: u8, told: Option<Match>) -> Checked {
     pair.taken(b)?;
     if pair.found() == told {
@@ -83,10 +82,10 @@ fn step(pair: &mut Pair, b: u8, told: Option<Match>) -> Checked {
     ))
 }
 
-/// A command of nine bytes for the sector with this number.
-fn command(first: u8, c1: u8, number: u8, eot: u8) -> [u8; 9] {
-    let [c, h, _, n] = WANTED;
-    [first, c1, c, h, number, n, eot, 0x2a, 0xff]
+/// A command of nine bytes for the wanted sector.
+fn command(first: u8, c1: u8, eot: u8) -> [u8; 9] {
+    let [c, h, r, n] = WANTED;
+    [first, c1, c, h, r, n, eot, 0x2a, 0xff]
 }
 
 /// Every search for the wanted sector, on this disk.
@@ -107,11 +106,11 @@ fn on_disk(case: &Case, watch: &mut Watch) -> Checked {
 fn searches(case: &Case, pair: &mut Pair) -> Checked {
     let c1 = case.c1();
     for eot in [0, 1, 2, 3, 255] {
-        tells(pair, &command(0x46, c1, 1, eot), case.told)?;
-        tells(pair, &command(0x4c, c1, 1, eot), case.told)?;
+        tells(pair, &command(0x46, c1, eot), case.told)?;
+        tells(pair, &command(0x4c, c1, eot), case.told)?;
     }
     tells(pair, &[0x4a, c1], None)?;
-    tells(pair, &command(0x45, c1, 1, 1), case.told)?;
+    tells(pair, &command(0x45, c1, 1), case.told)?;
     if case.told.is_some() {
         tells(pair, &DATA, case.told)?;
     }
@@ -123,12 +122,12 @@ fn not_ready(case: &Case, pair: &mut Pair) -> Checked {
     let firsts = [0x46, 0x4c, 0x45];
     for first in firsts {
         for drive in 1..=3 {
-            tells(pair, &command(first, case.c1() | drive, 1, 1), None)?;
+            tells(pair, &command(first, case.c1() | drive, 1), None)?;
         }
     }
     pair.put(None, 0)?;
     for first in firsts {
-        tells(pair, &command(first, case.c1(), 1, 1), None)?;
+        tells(pair, &command(first, case.c1(), 1), None)?;
     }
     pair.put(Some(0), 1)
 }
@@ -152,7 +151,7 @@ fn first_byte(first: u8, watch: &mut Watch) -> Checked {
         _ => None,
     };
     with(&[&[numbers([2, 1, 1])]], watch, |pair| {
-        for (place, b) in (1..).zip(command(first, 0, 1, 1)) {
+        for (place, b) in (1..).zip(command(first, 0, 1)) {
             step(pair, b, told.filter(|_| place == 9))?;
             if pair.rust().boxes().command.is_empty() {
                 break;
@@ -179,11 +178,11 @@ fn changes(watch: &mut Watch) -> Checked {
     with(&[&three, &two, &none], watch, |pair| {
         for (end, told) in ends {
             for sent in [1, 5, 8] {
-                changed(pair, &command(0x46, 0, 1, 1), sent, end, told)?;
+                changed(pair, &command(0x46, 0, 1), sent, end, told)?;
             }
             for sent in [1, 64, 127] {
                 pair.put(Some(0), 1)?;
-                tells(pair, &command(0x45, 0, 1, 1), at(1, 3))?;
+                tells(pair, &command(0x45, 0, 1), at(1, 3))?;
                 changed(pair, &DATA, sent, end, told)?;
             }
         }
@@ -211,13 +210,13 @@ fn refusals(watch: &mut Watch) -> Checked {
     let sectors = [2, 1, 1].map(|r| Sector::stored([0, 0, r, 0], 100));
     let track = Track::new(0, 0, sectors.to_vec());
     with(&[&[track]], watch, |pair| {
-        let read = command(0x46, 0, 1, 1);
+        let read = command(0x46, 0, 1);
         tells(pair, &read[..8], None)?;
         pair.transfer.lend(99);
         refused(pair, read[8], 9)?;
         pair.transfer.lend(100);
         tells(pair, &read[8..], at(2, 2))?;
-        tells(pair, &command(0x45, 0, 1, 1), at(2, 2))?;
+        tells(pair, &command(0x45, 0, 1), at(2, 2))?;
         tells(pair, &DATA[..127], None)?;
         pair.store().data.lend(327);
         refused(pair, DATA[127], 8)?;

@@ -29,6 +29,9 @@
 //! }
 //! ```
 //!
+//! A byte that is taken answers a [`Report`]: beside what the ports show, it says which sector of its track was served,
+//! where an ID may stand more than once.
+//!
 //! A session starts with a new controller, or with one that is taken up from its [sheet](Controller::to_sheet);
 //! nothing else is carried over from one controller to another, because the library keeps nothing between calls.
 
