@@ -23,7 +23,7 @@
  *   bits 0 to 7     the byte that it answers: kafondiye_byte
  *   bits 8 to 15    why it was refused: kafondiye_refusal_of
  *   bits 16 to 31   of a sector that was found, its place in the track and how many sectors of the track bear its ID:
- *                   kafondiye_place_in_track, kafondiye_count_of_id
+ *                   kafondiye_place_in_track, kafondiye_count_of_id (disk_geometry has a cylinder there)
  *   bits 32 to 63   how long a sheet or an image is: kafondiye_sheet_length, kafondiye_image_length
  *
  * What a call does not tell is 0. A refused call answers its number alone, and has changed no byte.

@@ -316,6 +316,18 @@ mod tests {
     }
 
     #[test]
+    fn an_id_three_times_on_a_track_is_place_1_of_3_in_both_words() {
+        let (mut table, data) = (vec![0; table_length()], vec![0; 384]);
+        table[..7].copy_from_slice(&[1, 0, 0, 0, 0x2a, 0xe5, 3]);
+        for row in table[7..31].chunks_mut(8) {
+            row.copy_from_slice(&[0, 0, 1, 0, 0, 0, 128, 0]);
+        }
+        let first = [0, 0, 0, 0, 1, 0];
+        assert_eq!(words::has_sector(&table, &data, first), 0x0301_0001);
+        assert_eq!(words::sector(&table, &data, first), 0x0301_0080);
+    }
+
+    #[test]
     fn a_refused_read_answers_its_number_alone_and_tells_of_its_sector_when_it_is_taken() {
         let (mut table, mut data) = (vec![0; table_length()], vec![0; 184_320]);
         let mut own = vec![0; controller_length()];

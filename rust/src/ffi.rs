@@ -39,8 +39,8 @@ unsafe extern "C" {
         transfer: *const u8,
         transfer_length: usize,
     ) -> u64;
-    /// Sends a byte to the data port. Tells of the sector that was found where the byte ends a Read Data (of its first
-    /// sector), a Read Deleted, a Write Data or a write, and of none at every other byte.
+    /// Sends a byte to the data port. Tells of the sector that was found where the byte ends a Read Data or
+    /// Read Deleted (of its first sector), a Write Data or a write, and of none at every other byte.
     pub fn floppy_write_cmd(
         controller: *mut u8,
         length: usize,
@@ -127,8 +127,8 @@ unsafe extern "C" {
         n: u8,
     ) -> u64;
     /// Not an answer word: the place of that sector's bytes in `data` in bits 32 to 63, their number in bits 0 to
-    /// 15, and between them what every word tells of a sector; 0 where there is none or the store is refused, and only
-    /// then.
+    /// 15, and in bits 16 to 31 which sector of its track it is; 0 where there is none or the store is refused, and
+    /// only then.
     pub fn disk_sector(
         table: *const u8,
         table_length: usize,

@@ -17,7 +17,7 @@ pub struct Match {
 #[derive(Clone, Copy, Debug, Default, PartialEq, Eq, Hash)]
 #[non_exhaustive]
 pub struct Report {
-    /// The sector that was found by a Read Data (the first that it reads), a Read Deleted, a Write Data or the end of a
+    /// The sector that was found by a Read Data or Read Deleted (the first that it reads), a Write Data or the end of a
     /// write, told at the byte that ends it. None where none was found or the drive was not ready, and at every other
     /// byte.
     pub sector: Option<Match>,

@@ -57,7 +57,7 @@ tells told xs x = good record { changes = xs; response = x; put = none; report =
 abbrev pub does : List Change → Response → Result Effect
 does xs x = tells silent xs x
 
--- a disk put, and a reply
+-- a disk put, a reply, and what is told
 abbrev pub puts : Report → List Change → Disk → List ℕ → Result Effect
 puts told xs d reply = good record { changes = xs; response = Reply reply; put = some d; report = told }
 

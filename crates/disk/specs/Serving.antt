@@ -1,5 +1,5 @@
 -- What the private calls of a read answer, by place. A reader of the promises need not read this page.
-use Prim.Native.Nat.{ℕ, zero, suc, _+_, _*_, _≤_, _<_}
+use Prim.Native.Nat.{ℕ, zero, suc, _+_, _-_, _*_, _≤_, _<_}
 use mathlib.Core.List.{List}
 use mathlib.Core.Bool.{cond}
 use Rattle.tracks.specs.Block.{rowAt}
@@ -12,6 +12,7 @@ use Rattle.fields.specs.Model.{Sector}
 use mathlib.Core.Path.{_≡_}
 use lib.ListN.{length}
 use Rattle.store.specs.Spots.{rowHere}
+use Rattle.disk.specs.Calls.{Filled, filledOf}
 use Rattle.disk.specs.declared.serve.Extent.{Extent}
 use Rattle.fields.specs.Capacities.{mostData}
 
@@ -37,6 +38,11 @@ runOf t b start first count id r k = runFrom id (sectorsAt t b start first count
 -- which of the sectors is the first that is read
 abbrev pub runMatch : List ℕ → List ℕ → ℕ → ℕ → ℕ → SectorId → Match
 runMatch t b start first count id = firstMatch id (sectorsAt t b start first count)
+
+-- what a read among rows answers and leaves, from the number of an ID up to another
+abbrev pub filledAt : List ℕ → List ℕ → List ℕ → ℕ → ℕ → ℕ → SectorId → ℕ → Filled
+filledAt x t b start first count id eot =
+    filledOf x (runMatch t b start first count id) (runOf t b start first count id (id .r) (suc (eot - id .r)))
 
 -- rows that lie in the table and whose bytes lie in the data buffer
 pub record Rows (t b : List ℕ) (start first count : ℕ) : Type 0 where

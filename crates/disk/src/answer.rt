@@ -12,7 +12,7 @@ pub enum Saved {
     Refused(Refusal),
 }
 
-// What a read put into the transfer buffer: how many bytes, how many the sizes by n would be, the first sector's status bytes, and which one that is.
+// What a read put into the transfer buffer: how many bytes, how many the sizes by n would be, the first sector's status bytes, and which of its track it is.
 pub struct Served {
     pub total: usize,
     pub sizes: usize,

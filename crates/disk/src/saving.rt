@@ -17,7 +17,7 @@ ghost use Rattle.store.specs.Calls.{outcome};
 ghost use Rattle.disk.specs.Calls.{saveOf};
 ghost use Rattle.disk.specs.Saving.{lengthBytes, judged, planOf};
 
-// What a save will do: refuse, find no sector, or put its bytes over those of [from, to), which that one has, before the others up to `end`.
+// What a save will do: refuse, find no sector, or put its bytes over those of the sector `which`, [from, to), before the others up to `end`.
 enum Plan {
     Refused(Refusal),
     Missing,

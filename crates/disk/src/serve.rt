@@ -19,8 +19,8 @@ ghost use Prim.Native.Nat.{_+_, _-_, _*_, _<_, _≤_, suc};
 ghost use lib.ListN.{length};
 ghost use Rattle.buffer.specs.Over.{over};
 ghost use Rattle.store.specs.Store.{contents, tableLength};
-ghost use Rattle.disk.specs.Calls.{filled, filledOf, readOf};
-ghost use Rattle.disk.specs.Serving.{extentFrom, Rows, Gathered, runOf, runMatch};
+ghost use Rattle.disk.specs.Calls.{filled, readOf};
+ghost use Rattle.disk.specs.Serving.{extentFrom, Rows, Gathered, runOf, filledAt};
 
 // How many sectors a read finds, and how many bytes they store.
 pub struct Extent {
@@ -123,9 +123,8 @@ fn read_rows(
     transfer: &mut [u8],
 ) -> Reading
     requires { ⌜ Rows (now table) (now bytes) start first count ⌝ }
-    ensures { λ r. ⌜ filled r (now (transfer .exit)) ≡ filledOf (now (transfer .entry))
-        (runMatch (now (table .entry)) (now (bytes .entry)) start first count id)
-        (runOf (now (table .entry)) (now (bytes .entry)) start first count id (id .r) (suc (eot - id .r))) ⌝ }
+    ensures { λ r. ⌜ filled r (now (transfer .exit))
+        ≡ filledAt (now (transfer .entry)) (now (table .entry)) (now (bytes .entry)) start first count id eot ⌝ }
 {
     let Hit::At {
         which,

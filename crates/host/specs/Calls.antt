@@ -181,7 +181,7 @@ partOn t b side cylinder id = partWord (placeOf t b side cylinder id)
 abbrev pub partNamed : ℕ → List ℕ → List ℕ
 partNamed w b = take (w % 2 ^ 16) (drop (w / 2 ^ 32) b)
 
--- which sector any word names: its place in the track in bits 16 to 23, how many bear its ID in bits 24 to 31
+-- which sector the word of a byte sent, of `disk_has_sector` or of `disk_sector` names: place in bits 16 to 23, count in bits 24 to 31
 abbrev pub matchNamed : ℕ → Match
 matchNamed w = record { place = w / 2 ^ 16 % 2 ^ 8; count = w / 2 ^ 24 % 2 ^ 8 }
 

@@ -23,7 +23,8 @@ use Rattle.saves.proofs.Unbrokens.{run-unbroken}
 use Rattle.saves.specs.Words.{inDrive, Ready, Save, bytesOf, addressOf, IsSave, savedBy, Sends, Only, ReadsBack, readBytes, replyTo, LosesNone, dataReads, givenIn}
 use Rattle.runs.specs.Hosts.{Host, called, seen, stageOf, newHost, Sound}
 use Rattle.runs.proofs.Any.{calls-run, calls-sound, calls-tame, new-sound, new-run, polls-calls, calls-never-2}
-use Rattle.runs.proofs.Before.{actedBefore, answerBefore, before-run}
+use Rattle.runs.specs.Before.{actedBefore, answerBefore}
+use Rattle.runs.proofs.Before.{before-run}
 use Rattle.runs.proofs.Gets.{save-calls, second-calls, order-calls, back-calls}
 use Rattle.lending.specs.Lendings.{Lending, isAnswer, exported, wordOf, hostAt, lendingOf, seenIn, stageIn, storeIn, Formed, allPass, Posts, wordsRead, newLending}
 use Rattle.lending.proofs.Exports.{sound-fitting, refusal-fails, host-run, host-back, host-formed}
@@ -95,13 +96,13 @@ module _ (es : List Event) (l : Lending) (f : Formed l) where
   pub bytes-end : stageIn (run exported es l .end) ≡ run acted es (stageIn l) .end
   bytes-end = machine-end es l (hostAt l) (here l f)
 
-  -- Port bytes stay (2026-05): on the machine of before, whose bytes sent tell nothing, the same calls leave the same, and answer what these answer with
-  -- nothing told.
+  -- Port bytes stay (2026-05): the same calls on the machine of before leave the same; and it answers, with nothing told, what these words are of.
   pub bytes-before : (run actedBefore es (stageIn l) .end ≡ stageIn (run exported es l .end))
-      × (run actedBefore es (stageIn l) .answers ≡ map answerBefore (run acted es (stageIn l) .answers))
+      × ((run actedBefore es (stageIn l) .answers ≡ map answerBefore (run acted es (stageIn l) .answers))
+      × (run exported es l .answers ≡ map wordOf (run acted es (stageIn l) .answers)))
   bytes-before =
       let b = before-run es (stageIn l) in
-      (ap (λ (r : Run Answer Stage). r .end) b ∙ sym bytes-end, ap (λ (r : Run Answer Stage). r .answers) b)
+      (ap (λ (r : Run Answer Stage). r .end) b ∙ sym bytes-end, (ap (λ (r : Run Answer Stage). r .answers) b, bytes-words))
 
   -- They leave bytes of a controller that is one.
   pub bytes-formed : Formed (run exported es l .end)

@@ -2,43 +2,17 @@
 -- tell nothing: any calls on it leave the same boxes and disk, and answer the same but for what is told.
 use mathlib.Core.Path.{_≡_, refl, sym, ap, _∙_}
 use mathlib.Core.List.{List, map}
-use Rattle.fields.specs.Refusals.{Result, refused, good}
+use Rattle.fields.specs.Refusals.{Result, refused, good, after}
 use Rattle.registers.specs.Boxes.{World, Sent, silent}
 use Rattle.sending.specs.Machine.{sent, done, writePort, reportOf}
 use Rattle.saves.specs.Events.{Question, motorOn?, whichTrack?, diskIn?, Event, poll, read, send, ask, switch, swap, widen}
-use Rattle.saves.specs.Events.{Answer, showed, gave, took, said, stood, denied, Next, Run, run}
-use Rattle.saves.specs.Stages.{Stage, answerTo, acted}
+use Rattle.saves.specs.Events.{Answer, Next, Run, run}
+use Rattle.saves.specs.Stages.{Stage, sentOn, answerTo, acted}
 use Rattle.saves.proofs.Feeding.{byteOn}
+use Rattle.runs.specs.Before.{untold, actedBefore, answerBefore}
 use Rattle.runs.specs.Hosts.{Host, stageOf, called, Sound}
 use Rattle.runs.proofs.Follows.{follows}
 use Rattle.runs.proofs.Any.{calls-run}
-
--- all that a byte does, with nothing told
-abbrev pub untold : Result Sent → Result Sent
-untold (refused why) = refused why
-untold (good x) = good record {
-  taking = x .taking;
-  effect = record { changes = x .effect .changes; response = x .effect .response; put = x .effect .put; report = silent };
-}
-
--- one call, on the machine of before
-unfoldable pub actedBefore : Event → Stage → Next Answer Stage
-actedBefore poll g = acted poll g
-actedBefore read g = acted read g
-actedBefore (send b) g = byteOn g (untold (sent (g .setting) (g .world .inside) b))
-actedBefore (ask q) g = acted (ask q) g
-actedBefore (switch on) g = acted (switch on) g
-actedBefore (swap present t b) g = acted (swap present t b) g
-actedBefore (widen y) g = acted (widen y) g
-
--- an answer, with nothing told
-unfoldable pub answerBefore : Answer → Answer
-answerBefore (showed n) = showed n
-answerBefore (gave n) = gave n
-answerBefore (took x) = took silent
-answerBefore (said f) = said f
-answerBefore (stood c) = stood c
-answerBefore (denied why) = denied why
 
 -- ---- one call
 
@@ -46,7 +20,7 @@ answerBefore (denied why) = denied why
 abbrev Before : Next Answer Stage → Next Answer Stage
 Before x = record { answer = answerBefore (x .answer); then = x .then }
 
-byte-before : (g : Stage) (x : Result Sent) → byteOn g (untold x) ≡ Before (byteOn g x)
+byte-before : (g : Stage) (x : Result Sent) → sentOn g silent (after (untold x) (λ y. good (done (g .world) y))) ≡ Before (byteOn g x)
 unfolding answerBefore done
 byte-before g (refused why) = refl
 byte-before g (good x) = refl

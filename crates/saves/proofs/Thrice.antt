@@ -43,7 +43,7 @@ twice = trackWith (number 9 ∷ number 1 ∷ number 1 ∷ []) ∷ []
 
 -- ---- the bytes that are sent
 
--- a Read Data and a Write Data of number 1, a Read Data of a number that is not there, a Read ID, a Format with one sector, and so many data bytes
+-- a Read Data from a number up to 2, a Write Data of number 1, a Format with one sector, and so many data bytes
 abbrev reads : ℕ → List ℕ
 reads r = 0x46 ∷ 0 ∷ 0 ∷ 0 ∷ r ∷ 0 ∷ 2 ∷ 0x2A ∷ 0xFF ∷ []
 
@@ -62,12 +62,12 @@ filling n = replicate n 0xAA
 abbrev with : Slot → Stage
 with slot = record { setting = record { room = mostData; transfer = mostTransfer }; world = changeDisk slot newWorld }
 
-abbrev sentTo : Stage → List ℕ → Run Answer Stage
-sentTo g l = run acted (sendAll l) g
+abbrev sentAll : Stage → List ℕ → Run Answer Stage
+sentAll g l = run acted (sendAll l) g
 
 -- the stage then, and the same with another disk in the drive
-abbrev left : Stage → List ℕ → Stage
-left g l = sentTo g l .end
+abbrev leftBy : Stage → List ℕ → Stage
+leftBy g l = sentAll g l .end
 
 abbrev swapped : Slot → Stage → Stage
 swapped slot g = withWorld (changeDisk slot (g .world)) g
@@ -76,19 +76,19 @@ swapped slot g = withWorld (changeDisk slot (g .world)) g
 abbrev still : ℕ → List Answer
 still n = replicate n (took silent)
 
-abbrev tells : ℕ → ℕ → List Answer
-tells place count = took (serves (record { place = place; count = count })) ∷ []
+abbrev toldLast : ℕ → ℕ → List Answer
+toldLast place count = took (serves (record { place = place; count = count })) ∷ []
 
 pub record Thrice : Type 0 where
-  pub read : sentTo (with (Holds (good thrice))) (reads 1) .answers ≡ still 8 ++ tells 1 3
-  pub other : sentTo (with (Holds (good thrice))) (reads 2) .answers ≡ still 8 ++ tells 4 1
-  pub absent : sentTo (with (Holds (good thrice))) (reads 7) .answers ≡ still 9
-  pub no-disk : sentTo (with Empty) (reads 1) .answers ≡ still 9
-  pub read-id : sentTo (with (Holds (good thrice))) (0x4A ∷ 0 ∷ []) .answers ≡ still 2
-  pub write : sentTo (with (Holds (good thrice))) (writes ++ filling 128) .answers ≡ (still 8 ++ tells 1 3) ++ (still 127 ++ tells 1 3)
-  pub formatted-one : sentTo (left (with (Holds (good thrice))) formats) (reads 1) .answers ≡ still 8 ++ tells 1 1
-  pub other-disk : sentTo (swapped (Holds (good twice)) (left (with (Holds (good thrice))) (writes ++ filling 100))) (filling 28) .answers ≡ still 27 ++ tells 2 2
-  pub disk-out : sentTo (swapped Empty (left (with (Holds (good thrice))) (writes ++ filling 100))) (filling 28) .answers ≡ still 28
+  pub read : sentAll (with (Holds (good thrice))) (reads 1) .answers ≡ still 8 ++ toldLast 1 3
+  pub other : sentAll (with (Holds (good thrice))) (reads 2) .answers ≡ still 8 ++ toldLast 4 1
+  pub absent : sentAll (with (Holds (good thrice))) (reads 7) .answers ≡ still 9
+  pub no-disk : sentAll (with Empty) (reads 1) .answers ≡ still 9
+  pub read-id : sentAll (with (Holds (good thrice))) (0x4A ∷ 0 ∷ []) .answers ≡ still 2
+  pub write : sentAll (with (Holds (good thrice))) (writes ++ filling 128) .answers ≡ (still 8 ++ toldLast 1 3) ++ (still 127 ++ toldLast 1 3)
+  pub formatted-one : sentAll (leftBy (with (Holds (good thrice))) formats) (reads 1) .answers ≡ still 8 ++ toldLast 1 1
+  pub other-disk : sentAll (swapped (Holds (good twice)) (leftBy (with (Holds (good thrice))) (writes ++ filling 100))) (filling 28) .answers ≡ still 27 ++ toldLast 2 2
+  pub disk-out : sentAll (swapped Empty (leftBy (with (Holds (good thrice))) (writes ++ filling 100))) (filling 28) .answers ≡ still 28
   pub has : hasOf (good thrice) 0 0 (number 1) ≡ Yes (record { place = 1; count = 3 })
 
 pub thrice-told : Thrice

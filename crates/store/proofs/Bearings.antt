@@ -48,21 +48,21 @@ module _ (t : List ℕ) (id : SectorId) (at : ℕ) where
   bearing-none = down-none (λ k. bearingAt t id at k ≡ 0) refl
 
 -- what it knows at its head
-pub record Counted (t : List ℕ) (id : SectorId) (start count found at left : ℕ) : Type 0 where
+pub record BearingWalk (t : List ℕ) (id : SectorId) (start count found at left : ℕ) : Type 0 where
   pub inside : at + 8 * left ≤ tableLength
   pub few : found + left ≤ count
   pub rest : found + bearingAt t id at left ≡ bearingAt t id start count
 
 module _ (t : List ℕ) (id : SectorId) (start count : ℕ) where
-  pub count-start : start + 8 * count ≤ tableLength → Counted t id start count 0 start count
+  pub count-start : start + 8 * count ≤ tableLength → BearingWalk t id start count 0 start count
   count-start h = record { inside = h; few = omega arith; rest = omega arith }
 
-  module _ (found at left : ℕ) (s : Counted t id start count found at left) where
+  module _ (found at left : ℕ) (s : BearingWalk t id start count found at left) where
     -- a row that bears the ID is counted, and one that does not is not
-    pub count-again : (v : Bool) (n : ℕ) → 0 < left → rowHere t id at ≡ v → n ≡ found + cond v 1 0 → Counted t id start count n (at + 8) (left - 1)
+    pub count-again : (v : Bool) (n : ℕ) → 0 < left → rowHere t id at ≡ v → n ≡ found + cond v 1 0 → BearingWalk t id start count n (at + 8) (left - 1)
     count-again v n h e f = told v e f
       where
-        told : (w : Bool) → rowHere t id at ≡ w → n ≡ found + cond w 1 0 → Counted t id start count n (at + 8) (left - 1)
+        told : (w : Bool) → rowHere t id at ≡ w → n ≡ found + cond w 1 0 → BearingWalk t id start count n (at + 8) (left - 1)
         told true q g =
             let z = rw q at (bearing-step t id at left h) in
             record { inside = omega (arith, s .inside); few = omega (arith, s .few); rest = omega (arith, s .rest) }
@@ -76,7 +76,7 @@ module _ (t : List ℕ) (id : SectorId) (start count : ℕ) where
 -- ---- the first match
 
 -- where a row is the first match: how far it is from the first row, that it bears the ID, and that none before it does
-pub record Reached (t : List ℕ) (id : SectorId) (i at k j a : ℕ) : Type 0 where
+pub record FirstHere (t : List ℕ) (id : SectorId) (i at k j a : ℕ) : Type 0 where
   pub from : i ≤ j
   pub below : j < i + k
   pub stands : a + 8 * (i + k - j) ≡ at + 8 * k
@@ -84,15 +84,15 @@ pub record Reached (t : List ℕ) (id : SectorId) (i at k j a : ℕ) : Type 0 wh
   pub bears : bearingAt t id at k ≡ bearingAt t id a (i + k - j)
 
 module _ (t : List ℕ) (id : SectorId) where
-  pub reached : (i at place k j a p : ℕ) → sectorSpot t id i at place k ≡ At j a p → Reached t id i at k j a
+  pub reached : (i at place k j a p : ℕ) → sectorSpot t id i at place k ≡ At j a p → FirstHere t id i at k j a
   unfolding sectorSpot bearingAt
   reached i at place zero j a p e = never (cc)
   reached i at place (suc k) j a p e =
       told (rowHere t id at) refl e (reached (i + 1) (at + 8) (place + rowAt t at .stored) k j a p)
     where
       told : (h : Bool) → rowHere t id at ≡ h → cond h (At i at place) (sectorSpot t id (i + 1) (at + 8) (place + rowAt t at .stored) k) ≡ At j a p
-          → (sectorSpot t id (i + 1) (at + 8) (place + rowAt t at .stored) k ≡ At j a p → Reached t id (i + 1) (at + 8) k j a)
-          → Reached t id i at (suc k) j a
+          → (sectorSpot t id (i + 1) (at + 8) (place + rowAt t at .stored) k ≡ At j a p → FirstHere t id (i + 1) (at + 8) k j a)
+          → FirstHere t id i at (suc k) j a
       told true f q r =
           let ea : a ≡ at = cc in
           let ej : j ≡ i = cc in

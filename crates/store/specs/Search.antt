@@ -36,8 +36,8 @@ noMatch = record { place = 0; count = 0 }
 
 -- which sector was found: its place in the track, from 1, and how many bear that ID
 abbrev pub matchOf : ℕ → Found Sector → Match
-matchOf bear nothing = noMatch
-matchOf bear (found i s) = record { place = i + 1; count = bear }
+matchOf many nothing = noMatch
+matchOf many (found i s) = record { place = i + 1; count = many }
 
 -- which of a track's sectors is the first with an ID
 abbrev pub firstMatch : SectorId → List Sector → Match
@@ -48,7 +48,7 @@ abbrev pub matchIn : SectorId → Found Track → Match
 matchIn id nothing = noMatch
 matchIn id (found i t) = firstMatch id (t .sectors)
 
--- which sector stands at an address
+-- which sector of its track the search at an address finds
 unfoldable pub matchAt : Disk → ℕ → ℕ → SectorId → Match
 matchAt d side cylinder id = matchIn id (find (isTrack side cylinder) d)
 

@@ -84,8 +84,8 @@ storeBearing t side cylinder id = bearingIn t id (trackSpot t side cylinder 0 1 
 
 -- a row that was found, where so many bear its ID: which one it is, its place and that of its bytes
 abbrev pub hitOf : ℕ → Spot → Hit
-hitOf bear Nothing = hit.Nothing
-hitOf bear (At i at place) = hit.At (record { place = i + 1; count = bear }) at place
+hitOf many Nothing = hit.Nothing
+hitOf many (At i at from) = hit.At (record { place = i + 1; count = many }) at from
 
 -- the first of so many rows with an ID; and the row at an address
 unfoldable pub rowHit : List ℕ → SectorId → ℕ → ℕ → ℕ → Hit

@@ -1,5 +1,4 @@
--- The answer word: the byte in bits 0 to 7, the refusal number in bits 8 to 15, which sector was served in bits 16 to 31. A refused call answers its
--- number alone.
+-- The answer word: the byte in bits 0 to 7, the refusal number in bits 8 to 15, above them what each call says. A refused call answers its number alone.
 use Prim.Native.Nat.{ℕ, _+_, _*_, _^_}
 use mathlib.Core.Bool.{Bool, true, false}
 use Rattle.fields.specs.Refusals.{numberOf}

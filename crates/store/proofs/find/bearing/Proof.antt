@@ -2,13 +2,13 @@ use mathlib.Core.Path.{sym, _∙_}
 use mathlib.Core.Logic.{⊎-elim}
 use mathlib.Core.Bool.{true, false}
 use native.Mathlib.Omega.{arith}
-use Rattle.store.proofs.Bearings.{Counted, count-start, count-again, count-done}
+use Rattle.store.proofs.Bearings.{BearingWalk, count-start, count-again, count-done}
 use borrow.Author.Needs.{needs}
 use Rattle.store.proofs.find.bearing.Statement.{statement}
 use Rattle.store.proofs.find.bearing.Tie as tie
 
 abbrev Inv-loop : tie.InvT-loop
-Inv-loop table start count id found₀ at₀ left₀ found at left = Counted table id start count found at left
+Inv-loop table start count id found₀ at₀ left₀ found at left = BearingWalk table id start count found at left
 
 abbrev μ-loop : tie.MeasureT-loop
 μ-loop table start count id found₀ at₀ left₀ found at left = left
