@@ -5,6 +5,8 @@ mod ffi;
 #[path = "../rust/src/words.rs"]
 mod words;
 
+use crate::found::Match;
+
 pub use words::*;
 
 /// How many bytes a controller has.
@@ -22,4 +24,11 @@ pub const SHEET: usize = 31 + 8 + 7 + 65_536 + 5 + 1_023;
 /// where it is 0.
 pub fn refused(number: u8) -> u64 {
     u64::from(number) << 8
+}
+
+impl Match {
+    /// Bits 16 to 31 of a word that tells of this sector, or of none.
+    pub fn word(found: Option<Match>) -> u64 {
+        found.map_or(0, |Match { place, count }| place << 16 | count << 24)
+    }
 }

@@ -27,9 +27,4 @@ impl Match {
             count: equal.count() as u64,
         })
     }
-
-    /// Bits 16 to 31 of a word that tells of this sector, or of none.
-    pub fn word(found: Option<Match>) -> u64 {
-        found.map_or(0, |Match { place, count }| place << 16 | count << 24)
-    }
 }

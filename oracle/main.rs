@@ -13,6 +13,7 @@ mod capacities;
 mod dsk;
 mod dump;
 mod errors;
+mod found;
 mod home;
 mod home_edges;
 mod images;

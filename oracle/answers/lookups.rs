@@ -6,6 +6,7 @@ use raze::disk::{Disk, Sector, Track};
 use raze::floppy::SectorId;
 
 use crate::dump;
+use crate::found::Match;
 
 /// Where a sector is looked for: side, cylinder, C, H, R and N.
 type Address = [u8; 6];
@@ -35,8 +36,12 @@ fn print_found(disk: &Disk, address: Address, out: &mut impl Write) -> io::Resul
     let id = SectorId { c, h, r, n };
     let track = disk.get_track(side, cylinder);
     write!(out, "at {side} {cylinder} {c} {h} {r} {n} ")?;
-    match track.and_then(|track| track.get_sector(&id)) {
-        Some(Sector { data, .. }) => writeln!(out, "{} {}", data.len(), dump::check(data)),
-        None => writeln!(out, "none"),
+    let sector = track.and_then(|track| track.get_sector(&id));
+    match (sector, Match::find(disk, side, cylinder, &id)) {
+        (Some(Sector { data, .. }), Some(Match { place, count })) => {
+            let (length, check) = (data.len(), dump::check(data));
+            writeln!(out, "{place} {count} {length} {check}")
+        }
+        _ => writeln!(out, "none"),
     }
 }

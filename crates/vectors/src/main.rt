@@ -24,7 +24,7 @@ fn show_geometry(table: &[u8], bytes: &[u8]) {
     }
 }
 
-// What is found at an address.
+// What is found at an address, and which sector of its track it is.
 fn ask(table: &[u8], bytes: &[u8], side: u8, cylinder: u8, id: SectorId) {
     replay::put(b"at");
     replay::field(side as u64);
@@ -33,7 +33,11 @@ fn ask(table: &[u8], bytes: &[u8], side: u8, cylinder: u8, id: SectorId) {
     match store::has_sector(table, bytes, side, cylinder, id) {
         store::Has::Refused(why) => replay::refused(why),
         store::Has::No => replay::put(b" none\n"),
-        store::Has::Yes(_) => replay::show_content(store::lookup(table, bytes, side, cylinder, id)),
+        store::Has::Yes(sector) => {
+            replay::field(sector.place as u64);
+            replay::field(sector.count as u64);
+            replay::show_content(store::lookup(table, bytes, side, cylinder, id));
+        }
     }
 }
 
