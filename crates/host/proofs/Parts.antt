@@ -6,7 +6,7 @@ use native.Mathlib.Omega.{arith}
 use mathlib.Core.List.{List}
 use lib.ListN.{length}
 use Rattle.fields.specs.Bytes.{byteAt, numberAt}
-use Rattle.fields.specs.Refusals.{Result, refused, good}
+use Rattle.fields.specs.Refusals.{Result, refused, good, numberOf}
 use Rattle.fields.specs.Capacities.{mostData}
 use Rattle.fields.specs.Model.{Disk}
 use Rattle.fields.specs.declared.id.SectorId.{SectorId}
@@ -29,21 +29,26 @@ use Rattle.words.specs.Words.{refusalWord, matchWord, hasWord}
 use Rattle.host.specs.Calls.{partWord, partOn, partNamed, matchNamed, NoPart, no-disk, no-sector}
 use Rattle.host.proofs.Answers.{part-few}
 
--- a refusal names none
+-- a refusal has a number, and it fits a byte
+pub number-in : (why : Refusal) → (1 ≤ numberOf why) × (numberOf why < 256)
+number-in BadController = (omega arith, omega arith)
+number-in BadStore = (omega arith, omega arith)
+number-in ShortImage = (omega arith, omega arith)
+number-in NotAnImage = (omega arith, omega arith)
+number-in NotATrack = (omega arith, omega arith)
+number-in TooManyTracks = (omega arith, omega arith)
+number-in TooManySectors = (omega arith, omega arith)
+number-in NoRoom = (omega arith, omega arith)
+number-in NoTransferRoom = (omega arith, omega arith)
+number-in LongInput = (omega arith, omega arith)
+number-in BadSheet = (omega arith, omega arith)
+number-in NoImage = (omega arith, omega arith)
+number-in ShortBuffer = (omega arith, omega arith)
+
+-- so it names no sector
 pub refusal-silent : (why : Refusal) → matchNamed (refusalWord why) ≡ noMatch
-refusal-silent BadController = refl
-refusal-silent BadStore = refl
-refusal-silent ShortImage = refl
-refusal-silent NotAnImage = refl
-refusal-silent NotATrack = refl
-refusal-silent TooManyTracks = refl
-refusal-silent TooManySectors = refl
-refusal-silent NoRoom = refl
-refusal-silent NoTransferRoom = refl
-refusal-silent LongInput = refl
-refusal-silent BadSheet = refl
-refusal-silent NoImage = refl
-refusal-silent ShortBuffer = refl
+refusal-silent why =
+    ap₂ {C = Match} (λ (x y : ℕ). record { place = x; count = y }) (omega (arith, number-in why)) (omega (arith, number-in why))
 
 -- which sector a word names, whatever stands in its other bits
 module _ (m : Match) (place-few : m .place < 256) (count-few : m .count < 256) (low high : ℕ) (few : low < 2 ^ 16) where

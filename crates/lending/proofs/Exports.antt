@@ -1,15 +1,13 @@
 -- An exported call on the bytes of a controller that is one is the call on that controller; so are sequences of them.
 use mathlib.Core.Path.{_≡_, refl, sym, ap, subst, _∙_}
-use Prim.Native.Nat.{ℕ, _<_}
+use Prim.Native.Nat.{ℕ, _/_, _%_, _<_}
 use native.Mathlib.Omega.{arith}
 use mathlib.Core.Bool.{false}
 use mathlib.Core.List.{List, map}
 use lib.ListN.{length-drop}
+use borrow.Author.Tests.{ne-eqb}
 use Rattle.fields.specs.Bytes.{numberAt}
 use Rattle.fields.specs.declared.refusal.Refusal.{Refusal}
-use Rattle.fields.specs.declared.refusal.Refusal.the-variants.{BadController, BadStore, ShortImage, NotAnImage, NotATrack}
-use Rattle.fields.specs.declared.refusal.Refusal.the-variants.{TooManyTracks, TooManySectors, NoRoom, NoTransferRoom, LongInput}
-use Rattle.fields.specs.declared.refusal.Refusal.the-variants.{BadSheet, NoImage, ShortBuffer}
 use Rattle.store.specs.declared.answer.Done.{Done}
 use Rattle.store.specs.declared.answer.Done.the-variants as done
 use Rattle.store.proofs.Checks.{transfer-in}
@@ -35,6 +33,7 @@ use Rattle.layout.proofs.Images.{formed-long}
 use Rattle.layout.proofs.Inverse.{regs-back, held-back, written-back}
 use Rattle.words.specs.Words.{byteWord, flagWord, doneWord, receiptWord, refusalWord}
 use Rattle.host.specs.Calls.{Answered, answered, shownWord, changedWord, wroteWord}
+use Rattle.host.proofs.Parts.{number-in}
 use Rattle.host.proofs.Same.{motor-same, track-same, disk-same, status-same, read-same, set-motor-same, set-disk-same, write-same}
 use Rattle.lending.specs.Lendings.{Lending, isAnswer, swappedOn, afterAnswered, afterSending, askedOn, exported, wordOf, hostAt, lendingOf, Formed, Readable}
 
@@ -70,19 +69,7 @@ receipt-word (receipt.Refused why) = refl
 
 -- a refusal is no answer
 pub refusal-fails : (why : Refusal) → isAnswer (refusalWord why) ≡ false
-refusal-fails BadController = refl
-refusal-fails BadStore = refl
-refusal-fails ShortImage = refl
-refusal-fails NotAnImage = refl
-refusal-fails NotATrack = refl
-refusal-fails TooManyTracks = refl
-refusal-fails TooManySectors = refl
-refusal-fails NoRoom = refl
-refusal-fails NoTransferRoom = refl
-refusal-fails LongInput = refl
-refusal-fails BadSheet = refl
-refusal-fails NoImage = refl
-refusal-fails ShortBuffer = refl
+refusal-fails why = let n = number-in why in ne-eqb (refusalWord why / 256 % 256) 0 (λ z. omega (arith, n))
 
 -- ---- one call
 
