@@ -39,7 +39,7 @@ use Rattle.registers.specs.declared.regs.Drive.{Drive}
 use Rattle.registers.specs.declared.regs.Report.{Report}
 use Rattle.registers.specs.declared.regs.Written.{Written}
 use Rattle.registers.specs.Boxes.{Empty, Holds, fitted, Named, seven, silent, serves, Turn, Start, Finish, Stay, Reply, ReplyIfNone, Serve, Effect}
-use Rattle.registers.specs.View.{slotIf, settingOf, namedIn, writingOf, namedAs}
+use Rattle.registers.specs.View.{slotIf, roomsOf, namedIn, writingOf, namedAs}
 use Rattle.registers.specs.Settle.{accepted, declined, driveNamed, replied, regsWithUnread, regsChanged, regsAll, regsResponded, regsOf}
 use Rattle.registers.proofs.Drives.{drive-shown, drive-empty, drive-holds}
 use Rattle.commands.specs.Commands.{byte, idOf, sizesOf, ready, tells, does, puts, noId, missing, notReady, senseIf, senseDrive, seekIf, seekTo}
@@ -159,7 +159,7 @@ module _ (r : Regs) (deleted : Bool) (command b x : List ℕ) where
   Read e a x′ = Fills e r x (readRegs deleted command a r) x′
 
   abbrev Served : Match → List Sector → Result Effect
-  Served m ss = servedAs (settingOf b x) deleted command m ss
+  Served m ss = servedAs (roomsOf b x) deleted command m ss
 
   read-like : (f : calls.Filled) (e : Result Effect) → Read e (answer-of f) (buffer-of f) → (a : Reading) (x′ : List ℕ) → calls.filled a x′ ≡ f → Read e a x′
   unfolding answer-of buffer-of
@@ -186,7 +186,7 @@ module _ (r : Regs) (deleted : Bool) (command b x : List ℕ) where
 
   module _ (t : List ℕ) (d : Drive) (e : d ≡ driveNamed (byte command 1) r) where
     abbrev ReadAs : Named → Result Effect
-    ReadAs = readData (settingOf b x) deleted command
+    ReadAs = readData (roomsOf b x) deleted command
 
     pub read-none : d .disk ≡ false
         → Fills (readHere deleted command r t b x) r x (accepted silent (replied (notReady (byte command 1) (idOf command)) r)) x
@@ -266,7 +266,7 @@ module _ (r : Regs) (command t b : List ℕ) (d : Drive) (e : d ≡ driveNamed (
 
   module _ (x : List ℕ) where
     abbrev FormatAs : Named → Result Effect
-    FormatAs = formatTrack (settingOf b x) command
+    FormatAs = formatTrack (roomsOf b x) command
 
     pub format-none : d .disk ≡ false
         → let n : SectorId = record { c = d .cylinder; h = headOf (byte command 1); r = 0; n = byte command 2 } in
@@ -311,10 +311,10 @@ module _ (r : Regs) (t b held : List ℕ) (few : length held ≤ mostHeld) (d : 
 
   module _ (x : List ℕ) where
     abbrev WrittenAs : Named → Result Effect
-    WrittenAs = written (settingOf b x) (writingOf (r .write) held)
+    WrittenAs = written (roomsOf b x) (writingOf (r .write) held)
 
     at-saved : (m : Match) (y : Disk) (s : Found Sector)
-        → Saving (saveAt (settingOf b x) (writingOf (r .write) held) m y s) (calls.saveFound t b (length held) m y s)
+        → Saving (saveAt (roomsOf b x) (writingOf (r .write) held) m y s) (calls.saveFound t b (length held) m y s)
     unfolding saveAt
     at-saved m y nothing = unfold regsOf regsAll regsResponded in (refl, (refl, refl))
     at-saved m y (found k s) =

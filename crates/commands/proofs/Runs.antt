@@ -19,7 +19,7 @@ use Rattle.disk.specs.Change.{setTrack}
 use Rattle.codes.specs.declared.command.Command.{Command}
 use Rattle.registers.specs.declared.regs.Regs.{Regs}
 use Rattle.registers.specs.declared.regs.Written.{Written}
-use Rattle.registers.specs.Boxes.{Setting, Slot, Empty, Holds, Writing, Named, seven, silent, Response, Stay, Reply, ReplyIfNone, Seeking, Interrupt, Serve, Effect}
+use Rattle.registers.specs.Boxes.{Rooms, Slot, Empty, Holds, Writing, Named, seven, silent, Response, Stay, Reply, ReplyIfNone, Seeking, Interrupt, Serve, Effect}
 use Rattle.codes.specs.Second.{u, headOf}
 use Rattle.commands.specs.Commands.{byte, whenReady, puts, formatOf, seekIf, servedAs, readData, startAt, writeData, saveAt, written, idGiven, readId, formatTrack}
 use Rattle.registers.specs.Settle.{regsOf}
@@ -93,7 +93,7 @@ quiet-write c1 n d = when-ready Quiet (λ why. (tt, tt)) (d .slot) _ _ (refl, tt
     by m nothing = (refl, tt)
     by m (found k s) = (refl, tt)
 
-pub unput-read : (s : Setting) (deleted : Bool) (command : List ℕ) (d : Named) → Unput (readData s deleted command d)
+pub unput-read : (s : Rooms) (deleted : Bool) (command : List ℕ) (d : Named) → Unput (readData s deleted command d)
 unfolding readData servedAs
 unput-read s deleted command d = when-ready Unput (λ why. tt) (d .slot) _ _ refl (λ x. served (matchAt x _ (d .cylinder) _) (readAt x _ (d .cylinder) _ _))
   where
@@ -105,7 +105,7 @@ unput-read s deleted command d = when-ready Unput (λ why. tt) (d .slot) _ _ ref
     served m [] = refl
     served m (x ∷ xs) = needed (leb (length (contents (x ∷ xs))) (s .transfer)) _ _ refl
 
-pub still-format : (s : Setting) (command : List ℕ) (d : Named) → Still (formatTrack s command d)
+pub still-format : (s : Rooms) (command : List ℕ) (d : Named) → Still (formatTrack s command d)
 unfolding formatTrack
 still-format s command d =
     when-ready Still (λ why. tt) (d .slot) _ _ tt
@@ -115,7 +115,7 @@ still-format s command d =
     put (refused why) = tt
     put (good x) = tt
 
-pub still-written : (s : Setting) (w : Writing) (d : Named) → Still (written s w d)
+pub still-written : (s : Rooms) (w : Writing) (d : Named) → Still (written s w d)
 unfolding written saveAt
 still-written s w d = when-ready Still (λ why. tt) (d .slot) _ _ tt (λ x. by _ _ (sectorAt x (headOf (w .c1)) (d .cylinder) (w .id)))
   where

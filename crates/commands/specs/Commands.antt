@@ -24,7 +24,7 @@ use Rattle.codes.specs.declared.command.Command.{Command}
 use Rattle.codes.specs.declared.command.Command.the-variants.{Specify, SenseDrive, Recalibrate, SenseInterrupt, SeekTo}
 use Rattle.codes.specs.declared.command.Command.the-variants.{Version, ReadData, ReadDeleted, WriteData, ReadId, FormatTrack, Unserved, Invalid}
 use Rattle.registers.specs.declared.regs.Report.{Report}
-use Rattle.registers.specs.Boxes.{Setting, Slot, Empty, Holds, Drives, Writing, Named, named, seven, silent, serves}
+use Rattle.registers.specs.Boxes.{Rooms, Slot, Empty, Holds, Drives, Writing, Named, named, seven, silent, serves}
 use Rattle.registers.specs.Boxes.{Change, MoveTo, Turn, Start, Finish, Response, Stay, Reply, ReplyIfNone, Seeking, Interrupt, Serve, Effect}
 
 -- ---- The parts of a command
@@ -112,7 +112,7 @@ readReply deleted command long sizes st1 st2 =
     seven (u (byte command 1) + 0x40) (endOf long sizes st1) (markOf deleted st2) (numbered (idOf command) (byte command 6))
 
 -- what was read: nothing is missing; 9 where it exceeds the transfer room; else it replaces the unread data, and the first sector is told
-unfoldable pub servedAs : Setting → Bool → List ℕ → Match → List Sector → Result Effect
+unfoldable pub servedAs : Rooms → Bool → List ℕ → Match → List Sector → Result Effect
 servedAs s deleted command m [] = does [] (Reply (missing (byte command 1)))
 servedAs s deleted command m (x ∷ xs) =
     need (leb (length (contents (x ∷ xs))) (s .transfer)) NoTransferRoom
@@ -120,7 +120,7 @@ servedAs s deleted command m (x ∷ xs) =
     (readReply deleted command (length (contents (x ∷ xs))) (sizesOf (x ∷ xs)) (x .st1 .bits) (x .st2 .bits))))
 
 -- not ready: u + 0xC8, 0, 0, c, h, r, n
-unfoldable pub readData : Setting → Bool → List ℕ → Named → Result Effect
+unfoldable pub readData : Rooms → Bool → List ℕ → Named → Result Effect
 readData s deleted command d =
     whenReady (d .slot) (does [] (Reply (notReady (byte command 1) (idOf command))))
     (λ disk.
@@ -145,12 +145,12 @@ unfoldable pub writeReply : Writing → List ℕ
 writeReply w = seven (u (w .c1) + 0x40) 0x80 0x00 (w .id)
 
 -- the first match at that moment takes the new bytes and is told; 8 where the stored bytes would exceed the data room; no match, the same reply
-unfoldable pub saveAt : Setting → Writing → Match → Disk → Found Sector → Result Effect
+unfoldable pub saveAt : Rooms → Writing → Match → Disk → Found Sector → Result Effect
 saveAt s w m new nothing = does (Finish ∷ []) (Reply (writeReply w))
 saveAt s w m new (found k x) = need (leb (byteCount new) (s .room)) NoRoom (puts (serves m) (Finish ∷ []) new (writeReply w))
 
 -- with no disk the reply is the same
-unfoldable pub written : Setting → Writing → Named → Result Effect
+unfoldable pub written : Rooms → Writing → Named → Result Effect
 written s w d =
     whenReady (d .slot) (does (Finish ∷ []) (Reply (writeReply w)))
     (λ disk.
@@ -182,7 +182,7 @@ formatOf command cylinder =
     (idsFrom cylinder (headOf (byte command 1)) (byte command 2) 1 (byte command 3))
 
 -- 6, 7, 8; u, 0, 0, 0, 0, 0, n. Not ready: u + 0xC8, 0, 0, cylinder, head, 0, n
-unfoldable pub formatTrack : Setting → List ℕ → Named → Result Effect
+unfoldable pub formatTrack : Rooms → List ℕ → Named → Result Effect
 formatTrack s command d =
     whenReady (d .slot)
     (does [] (Reply (notReady (byte command 1) (record { c = d .cylinder; h = headOf (byte command 1); r = 0; n = byte command 2 }))))
@@ -192,7 +192,7 @@ formatTrack s command d =
 
 -- ---- A whole command
 
-unfoldable pub obeyed : Setting → Command → List ℕ → Drives → ℕ → Result Effect
+unfoldable pub obeyed : Rooms → Command → List ℕ → Drives → ℕ → Result Effect
 obeyed s Specify command d index = does [] Stay
 obeyed s SenseDrive command d index = does [] (Reply (senseDrive (byte command 1) (named (byte command 1) d)))
 obeyed s Recalibrate command d index = seekTo 0 (named (byte command 1) d)

@@ -13,7 +13,7 @@ use Rattle.registers.specs.declared.regs.Regs.{Regs}
 use Rattle.registers.specs.declared.regs.Report.{Report}
 use Rattle.registers.specs.declared.regs.Written.{Written}
 use Rattle.registers.specs.Boxes.{Response, Stay, Reply, ReplyIfNone, Seeking, Interrupt, Serve, Effect, Sent, World}
-use Rattle.registers.specs.View.{settingOf, writingOf, drivesOf, namedIn, worldOf}
+use Rattle.registers.specs.View.{roomsOf, writingOf, drivesOf, namedIn, worldOf}
 use Rattle.registers.specs.Settle.{declined, regsTaken, heldTaken, regsOf}
 use Rattle.commands.specs.Commands.{byte, readData, formatTrack, written, obeyed}
 use Rattle.registers.specs.declared.regs.Receipt.the-variants as receipt
@@ -65,16 +65,16 @@ ranOf e r t b x = ran (regsOf e r) (tableAfter e t) (dataAfter e b) (transferAft
 -- ---- The same of the commands, by the drives that are seen
 
 abbrev pub readHere : Bool → List ℕ → Regs → List ℕ → List ℕ → List ℕ → Result Effect
-readHere deleted command r t b x = readData (settingOf b x) deleted command (namedIn (byte command 1) r t b)
+readHere deleted command r t b x = readData (roomsOf b x) deleted command (namedIn (byte command 1) r t b)
 
 abbrev pub formatHere : List ℕ → Regs → List ℕ → List ℕ → List ℕ → Result Effect
-formatHere command r t b x = formatTrack (settingOf b x) command (namedIn (byte command 1) r t b)
+formatHere command r t b x = formatTrack (roomsOf b x) command (namedIn (byte command 1) r t b)
 
 abbrev pub writtenHere : List ℕ → Regs → List ℕ → List ℕ → List ℕ → Result Effect
-writtenHere held r t b x = written (settingOf b x) (writingOf (r .write) held) (namedIn (r .write .c1) r t b)
+writtenHere held r t b x = written (roomsOf b x) (writingOf (r .write) held) (namedIn (r .write .c1) r t b)
 
 abbrev pub ranHere : Command → List ℕ → Regs → List ℕ → List ℕ → List ℕ → Ran
-ranHere which command r t b x = ranOf (obeyed (settingOf b x) which command (drivesOf r t b) (r .index)) r t b x
+ranHere which command r t b x = ranOf (obeyed (roomsOf b x) which command (drivesOf r t b) (r .index)) r t b x
 
 -- ---- What a byte leaves: the same, and the held bytes
 

@@ -12,7 +12,7 @@ use Rattle.fields.specs.Model.{Disk, Each}
 use Rattle.fields.proofs.Tests.{never}
 use Rattle.registers.specs.Boxes.{World}
 use Rattle.registers.specs.Ports.{portByte}
-use Rattle.registers.specs.View.{settingOf, impossibleIn}
+use Rattle.registers.specs.View.{roomsOf, impossibleIn}
 use Rattle.layout.specs.Layout.{regsAt, formed}
 use Rattle.words.specs.Words.{boolWord, reportWord}
 use Rattle.host.proofs.Same.{image-formed}
@@ -136,14 +136,14 @@ module _ (t b x : List ℕ) (es : List Event) where
   new-stands : Stands (newLending t b x) (newHost t b x)
   new-stands = record { sound = new-sound t b x; are = refl }
 
-  new-is : run acted es (newStage (settingOf b x)) ≡ run acted es (stageOf (newHost t b x))
+  new-is : run acted es (newStage (roomsOf b x)) ≡ run acted es (stageOf (newHost t b x))
   new-is = new-run t b x es ∙ sym (calls-run es (newHost t b x) (new-sound t b x))
 
   -- The same from the bytes that `floppy_new` leaves, and a new machine.
-  pub new-words : run exported es (newLending t b x) .answers ≡ map wordOf (run acted es (newStage (settingOf b x)) .answers)
+  pub new-words : run exported es (newLending t b x) .answers ≡ map wordOf (run acted es (newStage (roomsOf b x)) .answers)
   new-words = machine-words es (newLending t b x) (newHost t b x) new-stands ∙ ap (λ (r : Run Answer Stage). map wordOf (r .answers)) (sym new-is)
 
-  pub new-end : stageIn (run exported es (newLending t b x) .end) ≡ run acted es (newStage (settingOf b x)) .end
+  pub new-end : stageIn (run exported es (newLending t b x) .end) ≡ run acted es (newStage (roomsOf b x)) .end
   new-end = machine-end es (newLending t b x) (newHost t b x) new-stands ∙ ap (λ (r : Run Answer Stage). r .end) (sym new-is)
 
 -- With unread data, no write in progress and lost count L, n status reads leave no data exactly where 3k - L is at most n.

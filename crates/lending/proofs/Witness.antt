@@ -117,9 +117,9 @@ sent-words : (l : List ℕ) (g : Stage) → granted (run acted (sendAll l) g .an
 unfolding run acted sendAll allPass
 sent-words [] g ok = refl
 sent-words (b ∷ l) g ok =
-    let x : Result World = writePort (g .setting) (g .world) b in
-    let y : Stage = sentOn g (reportOf (g .setting) (g .world) b) x .then in
-    sent-word x (reportOf (g .setting) (g .world) b) g (run acted (sendAll l) y .answers) ok (sent-words l y)
+    let x : Result World = writePort (g .rooms) (g .world) b in
+    let y : Stage = sentOn g (reportOf (g .rooms) (g .world) b) x .then in
+    sent-word x (reportOf (g .rooms) (g .world) b) g (run acted (sendAll l) y .answers) ok (sent-words l y)
 
 posts : (bytes : List ℕ) (l : Lending) (g : Stage) → At l g → granted (run acted (sendAll bytes) g .answers) ≡ true
     → Posts (sendAll bytes) bytes (run exported (sendAll bytes) l .answers)

@@ -19,7 +19,7 @@ use Rattle.store.proofs.Checks.{transfer-in}
 use Rattle.registers.specs.declared.regs.Regs.{Regs}
 use Rattle.registers.specs.Boxes.{Empty, World}
 use Rattle.registers.specs.Ports.{changeDisk}
-use Rattle.registers.specs.View.{settingOf, slotIf, insideOf, frontOf}
+use Rattle.registers.specs.View.{roomsOf, slotIf, insideOf, frontOf}
 use Rattle.registers.proofs.Numbers.{possible-in, until-in, until-long}
 use Rattle.sending.specs.Calls.{impossibleWith}
 use Rattle.store.specs.declared.answer.Extent.the-variants as extent
@@ -165,7 +165,7 @@ module _ (j : Host) (s : Sound j) (f : Bool) (t b : List ℕ) where
 
   swap-room : transferRoom (j .transfer) ≡ transferRoom (called (swap f t b) j .then .transfer)
   unfolding acted
-  swap-room = ap (λ (n : Next Answer Stage). n .then .setting .transfer) (agrees j s (swap f t b) .0)
+  swap-room = ap (λ (n : Next Answer Stage). n .then .rooms .transfer) (agrees j s (swap f t b) .0)
 
 module _ (k : Host) (y t b x : List ℕ) (s : Sound k) (room : transferRoom (k .transfer ++ y) ≡ transferRoom x) where
   abbrev W : World
@@ -243,11 +243,11 @@ module _ (s : List ℕ) (w : World) (t b x : List ℕ) (bytes : (k : ℕ) → by
   H = hostFrom w t b x
 
   -- Demand 2: calls on a controller that is read from a sheet answer what the machine answers from the boxes of the sheet, and leave what it leaves.
-  pub sheet-run : (es : List Event) → run acted es (record { setting = settingOf b x; world = w }) ≡ record { answers = run called es H .answers; end = stageOf (run called es H .end) }
+  pub sheet-run : (es : List Event) → run acted es (record { rooms = roomsOf b x; world = w }) ≡ record { answers = run called es H .answers; end = stageOf (run called es H .end) }
   sheet-run es = ap (run acted es) stage ∙ calls-run es H (sheet-sound s w t b x bytes e fits)
     where
-      stage : record { setting = settingOf b x; world = w } ≡ stageOf H
-      stage = λ i. record { setting = record { room = roomOf b; transfer = sym (from-room w t b x (accepted-right s w e) (accepted-index s w bytes e) fits) i }; world = sym (sheet-seen s w t b x e) i }
+      stage : record { rooms = roomsOf b x; world = w } ≡ stageOf H
+      stage = λ i. record { rooms = record { room = roomOf b; transfer = sym (from-room w t b x (accepted-right s w e) (accepted-index s w bytes e) fits) i }; world = sym (sheet-seen s w t b x e) i }
 
   -- Demand 3: a save after any calls from there, as from any controller that is one.
   pub sheet-save : (a : Save) (d : Disk) (fs es : List Event)

@@ -14,10 +14,10 @@ use Rattle.registers.specs.declared.regs.Report.{Report}
 use Rattle.registers.specs.declared.regs.Seek.{Seek}
 use Rattle.registers.specs.declared.regs.Seek.the-variants.{Idle, Running, Done}
 
--- ---- What a session is set up with
+-- ---- What is lent
 
 -- the data room and the transfer room
-pub record Setting : Type 0 where
+pub record Rooms : Type 0 where
   pub room : ℕ
   pub transfer : ℕ
 

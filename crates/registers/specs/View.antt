@@ -12,7 +12,7 @@ use Rattle.fields.specs.Model.{sizeOf, Disk}
 use Rattle.store.specs.Store.{roomOf, diskOf, transferRoom}
 use Rattle.registers.specs.declared.regs.Regs.{Regs}
 use Rattle.registers.specs.declared.regs.Pending.{Pending}
-use Rattle.registers.specs.Boxes.{Setting, Slot, Empty, Holds, Drives, Writing, Inside, Front, World, fitted, Named, named}
+use Rattle.registers.specs.Boxes.{Rooms, Slot, Empty, Holds, Drives, Writing, Inside, Front, World, fitted, Named, named}
 use Rattle.codes.specs.Table.{commandOf, bytesFor}
 use Rattle.store.specs.declared.answer.Done.the-variants as done
 use Rattle.registers.specs.declared.regs.Told.{Told}
@@ -23,8 +23,8 @@ use Rattle.registers.specs.declared.regs.Drive.{Drive}
 -- ---- The boxes
 
 -- the rooms of the buffers that are lent
-abbrev pub settingOf : List ℕ → List ℕ → Setting
-settingOf b x = record { room = roomOf b; transfer = transferRoom x }
+abbrev pub roomsOf : List ℕ → List ℕ → Rooms
+roomsOf b x = record { room = roomOf b; transfer = transferRoom x }
 
 -- the disk that is in the drive, if the flag says that one is
 abbrev pub slotIf : Bool → Result Disk → Slot

@@ -14,7 +14,7 @@ use Rattle.store.specs.Store.{transferRoom}
 use Rattle.codes.specs.Table.{maskRows, rows, commandBy, commandOf}
 use Rattle.registers.specs.Boxes.{World}
 use Rattle.registers.specs.Ports.{polls}
-use Rattle.registers.specs.View.{settingOf, insideOf, frontOf, impossible, impossibleIn}
+use Rattle.registers.specs.View.{roomsOf, insideOf, frontOf, impossible, impossibleIn}
 use Rattle.registers.proofs.Numbers.{possible, possible-in}
 use Rattle.registers.proofs.Polls.{polls-empty}
 use Rattle.floppy.specs.Calls.{newFloppy}
@@ -65,12 +65,12 @@ module _ (t b x : List ℕ) where
   unfolding newFloppy impossible impossibleIn commandOf commandBy rows maskRows
   new-sound = record { nine = refl; seven = refl; held = length-replicate {A = ℕ} mostHeld 0; index-fits = omega arith; taken-fits = omega arith; possible = le-ltb (transferRoom x) 0 (omega arith) }
 
-  new-stage : newStage (settingOf b x) ≡ stageOf (newHost t b x)
-  new-stage i = record { setting = settingOf b x; world = sym (new-seen t b x) i }
+  new-stage : newStage (roomsOf b x) ≡ stageOf (newHost t b x)
+  new-stage i = record { rooms = roomsOf b x; world = sym (new-seen t b x) i }
 
   module _ (es : List Event) where
     -- Over any calls from a new controller, what they answer and leave is what the machine answers and leaves from a new world.
-    pub new-run : run acted es (newStage (settingOf b x)) ≡ record { answers = run called es (newHost t b x) .answers; end = stageOf (run called es (newHost t b x) .end) }
+    pub new-run : run acted es (newStage (roomsOf b x)) ≡ record { answers = run called es (newHost t b x) .answers; end = stageOf (run called es (newHost t b x) .end) }
     new-run = ap (run acted es) new-stage ∙ calls-run es (newHost t b x) new-sound
 
     -- Refusal 1 never comes.

@@ -35,7 +35,7 @@ call-before : (e : Event) (g : Stage) → actedBefore e g ≡ Before (acted e g)
 unfolding actedBefore acted answerBefore writePort reportOf
 call-before poll g = refl
 call-before read g = refl
-call-before (send b) g = byte-before g (sent (g .setting) (g .world .inside) b)
+call-before (send b) g = byte-before g (sent (g .rooms) (g .world .inside) b)
 call-before (ask q) g = λ i. record { answer = sym (asked-before q (g .world)) i; then = g }
 call-before (switch on) g = refl
 call-before (swap present t b) g = refl

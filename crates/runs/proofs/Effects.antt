@@ -31,9 +31,9 @@ use Rattle.store.proofs.Rounds.{data-length}
 use Rattle.disk.specs.Change.{saved, setTrack}
 use Rattle.codes.specs.declared.command.Command.{Command}
 use Rattle.codes.specs.declared.command.Command.the-variants.{Specify, SenseDrive, Recalibrate, SenseInterrupt, SeekTo, Version, ReadData, ReadDeleted, WriteData, ReadId, FormatTrack, Unserved, Invalid}
-use Rattle.registers.specs.Boxes.{Setting, Slot, Empty, Holds, Drives, Writing, Named, fitted, namedIf, named, seven, silent, serves}
+use Rattle.registers.specs.Boxes.{Rooms, Slot, Empty, Holds, Drives, Writing, Named, fitted, namedIf, named, seven, silent, serves}
 use Rattle.registers.specs.Boxes.{Finish, Response, Stay, Reply, ReplyIfNone, Seeking, Interrupt, Serve, Effect}
-use Rattle.registers.specs.View.{settingOf, slotIf}
+use Rattle.registers.specs.View.{roomsOf, slotIf}
 use Rattle.codes.specs.Second.{u, headOf}
 use Rattle.commands.specs.Commands.{byte, idOf, whenReady, tells, does, puts, missing, senseIf, ready, seekIf, readReply, servedAs, readData, startAt, writeData, writeReply, saveAt, written, idGiven, readId, formatOf, formatTrack, obeyed}
 use Rattle.commands.specs.Lent.{dataWith, transferWith}
@@ -82,11 +82,11 @@ store-clean true t b = go (store.wellLaid t (roomOf b)) refl
 -- ---- effects
 
 -- a disk that is put fits the room
-abbrev pub Fits : Setting → Option Disk → Type 0
+abbrev pub Fits : Rooms → Option Disk → Type 0
 Fits s none = Unit {0}
 Fits s (some y) = byteCount y ≤ s .room
 
-module _ (Bad : Type 0) (s : Setting) where
+module _ (Bad : Type 0) (s : Rooms) where
   abbrev pub Proper : Result Effect → Type 0
   Proper (refused why) = MayRefuse Bad why
   Proper (good e) = AllFair (e .changes) × (Short (s .transfer) (e .response) × Fits s (e .put))
@@ -232,6 +232,6 @@ pub laid-kept : (d : List ℕ) (z : Disk) → byteCount z ≤ roomOf d → roomO
 unfolding roomOf
 laid-kept d z h = ap (λ (n : ℕ). min n mostData) (over-length d 0 (dataOf z) (omega (arith, room-in d, h, data-length z)))
 
-pub room-kept : (d x : List ℕ) (y : Option Disk) → Fits (settingOf d x) y → roomOf (dataWith y d) ≡ roomOf d
+pub room-kept : (d x : List ℕ) (y : Option Disk) → Fits (roomsOf d x) y → roomOf (dataWith y d) ≡ roomOf d
 room-kept d x none q = refl
 room-kept d x (some z) q = laid-kept d z q

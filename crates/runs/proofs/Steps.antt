@@ -22,8 +22,8 @@ use Rattle.codes.specs.declared.command.Command.{Command}
 use Rattle.codes.specs.Table.{commandOf, bytesFor}
 use Rattle.registers.specs.declared.regs.Regs.{Regs}
 use Rattle.registers.specs.declared.regs.Byte.the-variants as byte
-use Rattle.registers.specs.Boxes.{Setting, Inside, World, Add, Hold, Change, Clear, Finish, Effect, Sent, named, silent, Holds}
-use Rattle.registers.specs.View.{slotIf, settingOf, slotOf, drivesOf, writingOf, insideOf, frontOf, impossibleIn}
+use Rattle.registers.specs.Boxes.{Rooms, Inside, World, Add, Hold, Change, Clear, Finish, Effect, Sent, named, silent, Holds}
+use Rattle.registers.specs.View.{slotIf, roomsOf, slotOf, drivesOf, writingOf, insideOf, frontOf, impossibleIn}
 use Rattle.registers.specs.Settle.{regsTaken, heldTaken, regsChanged, regsAll, regsResponded, regsOf}
 use Rattle.registers.specs.Calls.{statusRead, dataRead, motorSet, diskSet}
 use Rattle.registers.proofs.Numbers.{possible, possible-in, taken-few, count-few}
@@ -54,8 +54,8 @@ held-is false disk d e = never (cc)
 
 module _ (r : Regs) (b : ℕ) (h t d x : List ℕ) (ok : impossibleIn x r ≡ false) (nine : length (r .command) ≡ 9) (seven : length (r .reply) ≡ 7)
     (small : Small (r .index) (r .write .taken)) (long : length h ≡ mostHeld) where
-  abbrev S : Setting
-  S = settingOf d x
+  abbrev S : Rooms
+  S = roomsOf d x
 
   abbrev Room : ℕ
   Room = transferRoom x
@@ -172,7 +172,7 @@ module _ (k : Host) (s : Sound k) where
   unfolding acted called
   status-agrees =
       let t = status-seen R H (k .table) (k .bytes) (k .transfer) (s .possible) (s .nine) (s .seven) in
-      (λ i. record { answer = byteSaid showed (sym (t .0) i); then = record { setting = lent k; world = sym (t .1) i } }, sound-with (statusRead R .regs) status-lawful)
+      (λ i. record { answer = byteSaid showed (sym (t .0) i); then = record { rooms = lent k; world = sym (t .1) i } }, sound-with (statusRead R .regs) status-lawful)
 
   read-lawful : Lawful (dataRead R (k .transfer) .regs) N
   unfolding dataRead
@@ -182,7 +182,7 @@ module _ (k : Host) (s : Sound k) where
   unfolding acted called
   read-agrees =
       let t = read-seen R H (k .table) (k .bytes) (k .transfer) (s .possible) (s .nine) (s .seven) in
-      (λ i. record { answer = byteSaid gave (sym (t .0) i); then = record { setting = lent k; world = sym (t .1) i } }, sound-with (dataRead R (k .transfer) .regs) read-lawful)
+      (λ i. record { answer = byteSaid gave (sym (t .0) i); then = record { rooms = lent k; world = sym (t .1) i } }, sound-with (dataRead R (k .transfer) .regs) read-lawful)
 
   -- ---- questions
 
@@ -206,7 +206,7 @@ module _ (k : Host) (s : Sound k) where
   unfolding acted called
   switch-agrees on =
       let t = motor-seen R H (k .table) (k .bytes) (k .transfer) (s .possible) (s .nine) (s .seven) on in
-      (λ i. record { answer = doneSaid (sym (t .0) i); then = record { setting = lent k; world = sym (t .1) i } }, sound-with (motorSet on R .regs) (motor-lawful on))
+      (λ i. record { answer = doneSaid (sym (t .0) i); then = record { rooms = lent k; world = sym (t .1) i } }, sound-with (motorSet on R .regs) (motor-lawful on))
 
   disk-lawful : (present : Bool) → Lawful (diskSet present R .regs) N
   unfolding diskSet
@@ -221,7 +221,7 @@ module _ (k : Host) (s : Sound k) where
   swap-agrees present t b =
       let d = disk-seen R H (k .table) (k .bytes) (k .transfer) (s .possible) (s .nine) (s .seven) present t b in
       let w = sound-of (withStore t b (With (diskSet present R .regs))) (s .held) (disk-lawful present) in (
-        (λ i. record { answer = took silent; then = record { setting = settingOf b (k .transfer); world = sym (d .1) i } })
+        (λ i. record { answer = took silent; then = record { rooms = roomsOf b (k .transfer); world = sym (d .1) i } })
             ∙ (λ i. record { answer = doneSaid (sym (d .0) i); then = stageOf (swapped present t b (sym (d .0) i)) }),
         subst (λ (a : Done). Sound (swapped present t b a)) (sym (d .0)) w,
       )
@@ -248,7 +248,7 @@ module _ (k : Host) (s : Sound k) where
   widen-agrees y = (
     λ i. record {
       answer = took silent;
-      then = record { setting = record { room = roomOf (k .bytes); transfer = sym (wider y) i }; world = record { inside = seen k .inside; front = same-front y i } };
+      then = record { rooms = record { room = roomOf (k .bytes); transfer = sym (wider y) i }; world = record { inside = seen k .inside; front = same-front y i } };
     },
     sound-of (withMore y k) (s .held) (lawful-wider R N (transferRoom (k .transfer ++ y)) (no-smaller y) lawful),
   )
@@ -301,7 +301,7 @@ module _ (k : Host) (s : Sound k) where
     -- the rooms are those that were lent
     then-lent : (y : Sent) → KeepsAs (good y) → lent (Then y) ≡ lent k
     then-lent y q =
-        ap₂ {C = Setting} (λ (n m : ℕ). record { room = n; transfer = m })
+        ap₂ {C = Rooms} (λ (n m : ℕ). record { room = n; transfer = m })
         (room-kept (k .bytes) (k .transfer) (y .effect .put) (q .1 .1 .1)) (transfer-kept (k .transfer) (y .effect .response) (q .1 .1 .0))
 
     then-sound : (y : Sent) → KeepsAs (good y) → Sound (Then y)
@@ -317,7 +317,7 @@ module _ (k : Host) (s : Sound k) where
         → (byteOn (stageOf k) y ≡ record { answer = CalledAs (LeftAs y) .answer; then = stageOf (CalledAs (LeftAs y) .then) }) × Sound (CalledAs (LeftAs y) .then)
     unfolding leftOf regsOf
     send-go (refused why) e q = (refl, s)
-    send-go (good y) e q = (λ i. record { answer = took (y .effect .report); then = record { setting = sym (then-lent y q) i; world = sym (then-seen y e) i } }, then-sound y q)
+    send-go (good y) e q = (λ i. record { answer = took (y .effect .report); then = record { rooms = sym (then-lent y q) i; world = sym (then-seen y e) i } }, then-sound y q)
 
     send-agrees : Agrees k (send b)
     unfolding acted called writePort reportOf

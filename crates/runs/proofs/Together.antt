@@ -61,7 +61,7 @@ putBy (good y) = y .effect .put
 abbrev pub tableThen : Event → Stage → List ℕ → List ℕ
 tableThen poll g t = t
 tableThen read g t = t
-tableThen (send b) g t = tableWith (putBy (sent (g .setting) (g .world .inside) b)) t
+tableThen (send b) g t = tableWith (putBy (sent (g .rooms) (g .world .inside) b)) t
 tableThen (ask q) g t = t
 tableThen (switch on) g t = t
 tableThen (swap present u v) g t = u
@@ -70,7 +70,7 @@ tableThen (widen y) g t = t
 abbrev pub dataThen : Event → Stage → List ℕ → List ℕ
 dataThen poll g b = b
 dataThen read g b = b
-dataThen (send x) g b = dataWith (putBy (sent (g .setting) (g .world .inside) x)) b
+dataThen (send x) g b = dataWith (putBy (sent (g .rooms) (g .world .inside) x)) b
 dataThen (ask q) g b = b
 dataThen (switch on) g b = b
 dataThen (swap present u v) g b = v
@@ -121,7 +121,7 @@ module _ (k : Host) (s : Sound k) where
 
 -- they stand at one stage
 pub alike-stage : (k j : Host) → Alike k j → stageOf k ≡ stageOf j
-alike-stage k j a = λ i. record { setting = record { room = roomOf (a .bytes i); transfer = a .room i }; world = a .boxes i }
+alike-stage k j a = λ i. record { rooms = record { room = roomOf (a .bytes i); transfer = a .room i }; world = a .boxes i }
 
 -- One call answers the same on both, and leaves them alike.
 pub alike-call : (k j : Host) (e : Event) → Alike k j → (called e k .answer ≡ called e j .answer) × Alike (called e k .then) (called e j .then)
@@ -140,7 +140,7 @@ alike-call k j e a =
         boxes = ap (λ (z : Next Answer Stage). z .then .world) n;
         table = u .0 ∙ ap₂ (tableThen e) g (a .table) ∙ sym (v .0);
         bytes = u .1 ∙ ap₂ (dataThen e) g (a .bytes) ∙ sym (v .1);
-        room = ap (λ (z : Next Answer Stage). z .then .setting .transfer) n;
+        room = ap (λ (z : Next Answer Stage). z .then .rooms .transfer) n;
       },
     )
 

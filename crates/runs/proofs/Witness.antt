@@ -64,7 +64,7 @@ host-sound = calls-sound (swap true freshTable freshBytes ∷ []) (newHost [] []
 pub host-stage : start ≡ stageOf host
 unfolding host run acted
 host-stage =
-    (λ i. record { setting = record { room = sym fresh-room i; transfer = sym transfer-is i }; world = changeDisk (Holds (sym fresh-laid i)) newWorld })
+    (λ i. record { rooms = record { room = sym fresh-room i; transfer = sym transfer-is i }; world = changeDisk (Holds (sym fresh-laid i)) newWorld })
     ∙ ap (λ (r : Run Answer Stage). r .end) (new-run [] [] (replicate mostTransfer 0) (swap true freshTable freshBytes ∷ []))
 
 pub host-ready : Ready (seen host) fresh

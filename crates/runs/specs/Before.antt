@@ -17,7 +17,7 @@ untold (good x) = good record {
 unfoldable pub actedBefore : Event → Stage → Next Answer Stage
 actedBefore poll g = acted poll g
 actedBefore read g = acted read g
-actedBefore (send b) g = sentOn g silent (after (untold (sent (g .setting) (g .world .inside) b)) (λ x. good (done (g .world) x)))
+actedBefore (send b) g = sentOn g silent (after (untold (sent (g .rooms) (g .world .inside) b)) (λ x. good (done (g .world) x)))
 actedBefore (ask q) g = acted (ask q) g
 actedBefore (switch on) g = acted (switch on) g
 actedBefore (swap present t b) g = acted (swap present t b) g

@@ -18,8 +18,8 @@ use Rattle.registers.specs.declared.regs.Byte.the-variants as byte
 use Rattle.registers.specs.declared.regs.Flag.{Flag}
 use Rattle.registers.specs.declared.regs.Flag.the-variants as flag
 use Rattle.registers.specs.declared.regs.Regs.{Regs}
-use Rattle.registers.specs.Boxes.{Setting, World, silent}
-use Rattle.registers.specs.View.{settingOf, worldOf, impossibleIn}
+use Rattle.registers.specs.Boxes.{Rooms, World, silent}
+use Rattle.registers.specs.View.{roomsOf, worldOf, impossibleIn}
 use Rattle.registers.specs.Calls.{motorSet, diskSet, motorOf, currentTrack, diskIn}
 use Rattle.floppy.specs.declared.Floppy.{Floppy}
 use Rattle.floppy.specs.declared.Shown.{Shown}
@@ -108,11 +108,11 @@ called (widen y) k = record { answer = took silent; then = withMore y k }
 abbrev pub seen : Host → World
 seen k = worldOf (k .floppy .regs) (k .floppy .held) (k .table) (k .bytes) (k .transfer)
 
-abbrev pub lent : Host → Setting
-lent k = settingOf (k .bytes) (k .transfer)
+abbrev pub lent : Host → Rooms
+lent k = roomsOf (k .bytes) (k .transfer)
 
 abbrev pub stageOf : Host → Stage
-stageOf k = record { setting = lent k; world = seen k }
+stageOf k = record { rooms = lent k; world = seen k }
 
 -- the disk that a host's store holds
 abbrev pub storeOf : Host → Result Disk

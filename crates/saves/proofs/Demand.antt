@@ -17,7 +17,7 @@ use Rattle.store.specs.Find.{found}
 use Rattle.store.specs.Search.{sectorAt, matchAt}
 use Rattle.disk.specs.Change.{withContent, saved}
 use Rattle.codes.specs.declared.command.Command.the-variants.{SeekTo, WriteData}
-use Rattle.registers.specs.Boxes.{Setting, Holds, Inside, World, named, serves, Finish, changed, allChanged, putIn}
+use Rattle.registers.specs.Boxes.{Rooms, Holds, Inside, World, named, serves, Finish, changed, allChanged, putIn}
 use Rattle.codes.specs.Table.{commandOf, commandBy, rows}
 use Rattle.codes.specs.Second.{driveOf, headOf}
 use Rattle.commands.specs.Commands.{puts, seekIf, startAt, writeData, writeReply, saveAt, written, obeyed}
@@ -34,7 +34,7 @@ pub drive-0 : (c1 c : ℕ) (d : Disk) → driveOf c1 ≡ 0 → named c1 (driveOv
 unfolding named
 drive-0 c1 c d e = rw (eq-eqb (driveOf c1) 0 e)
 
-module _ (s : Setting) (m : Bool) (x : ℕ) (d : Disk) where
+module _ (s : Rooms) (m : Bool) (x : ℕ) (d : Disk) where
   seek-fed : (c c1 cylinder : ℕ) (bs : List ℕ) → driveOf c1 ≡ 0 → fed s (0x0F ∷ c1 ∷ cylinder ∷ bs) (partly m c x d []) ≡ fed s bs (partly m cylinder x d [])
   unfolding obeyed seekIf commandOf commandBy rows changed allChanged putIn
   seek-fed c c1 cylinder bs e =
@@ -89,7 +89,7 @@ ready-is w d h k = record {
 pub saved-inside : (a : Save) (d : Disk) (g : Stage) (es : List Event) → Ready (g .world) d → IsSave a d → Sends es (bytesOf a) (run acted es g .answers)
     → run acted es g .end .world .inside ≡ partly (g .world .inside .motor) (a .cylinder) (g .world .inside .index) (savedBy a d) []
 saved-inside a d g es ready save made =
-    let s : Setting = g .setting in
+    let s : Rooms = g .rooms in
     let w : World = g .world in
     let i : Inside = partly (w .inside .motor) (w .inside .drives .first .cylinder) (w .inside .index) d [] in
     let e : fed s (bytesOf a) i ≡ good (run acted es g .end .world .inside) = ap (fed s (bytesOf a)) (sym (ready-is w d ready)) ∙ run-fed es g (bytesOf a) (made .sends) (made .grants) .inside in

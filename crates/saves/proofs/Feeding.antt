@@ -12,7 +12,7 @@ use Rattle.fields.specs.Refusals.{Result, refused, good, after}
 use Rattle.fields.specs.Model.{sizeOf, Disk}
 use Rattle.fields.specs.declared.id.SectorId.{SectorId}
 use Rattle.codes.specs.declared.command.Command.{Command}
-use Rattle.registers.specs.Boxes.{Setting, Holds, Drives, Inside, World, Add, Hold, Effect, Sent, named, taken, changed, allChanged, putIn}
+use Rattle.registers.specs.Boxes.{Rooms, Holds, Drives, Inside, World, Add, Hold, Effect, Sent, named, taken, changed, allChanged, putIn}
 use Rattle.codes.specs.Table.{commandOf, bytesFor}
 use Rattle.registers.specs.Ports.{afterStatus, afterRead}
 use Rattle.commands.specs.Commands.{byte, obeyed, written}
@@ -28,11 +28,11 @@ use Rattle.saves.specs.Words.{firstOf, sentIn}
 abbrev pub effected : Effect → Inside → Inside
 effected e i = putIn (e .put) (allChanged (e .changes) i)
 
-unfoldable pub stepped : Setting → Inside → ℕ → Result Inside
+unfoldable pub stepped : Rooms → Inside → ℕ → Result Inside
 stepped s i b = after (sent s i b) (λ x. good (effected (x .effect) (taken (x .taking) i)))
 
 -- the bytes, one after another
-unfoldable pub fed : Setting → List ℕ → Inside → Result Inside
+unfoldable pub fed : Rooms → List ℕ → Inside → Result Inside
 fed s [] i = good i
 fed s (b ∷ bs) i = after (stepped s i b) (λ j. fed s bs j)
 
@@ -43,15 +43,15 @@ first-is b (some n) l e m q = let z : b ∷ n ≡ l = cc in let y : n ≡ m = cc
 
 -- what a sequence of port reads, questions and sent bytes does: its bytes do it inside, and the rooms stay
 pub record Fed (es : List Event) (g : Stage) (l : List ℕ) : Type 0 where
-  pub inside : fed (g .setting) l (g .world .inside) ≡ good (run acted es g .end .world .inside)
-  pub rooms : run acted es g .end .setting ≡ g .setting
+  pub inside : fed (g .rooms) l (g .world .inside) ≡ good (run acted es g .end .world .inside)
+  pub rooms : run acted es g .end .rooms ≡ g .rooms
 
 -- a byte sent, by all that it does
 abbrev pub byteOn : Stage → Result Sent → Next Answer Stage
 byteOn g x = sentOn g (reported x) (after x (λ v. good (done (g .world) v)))
 
 -- a byte sent that is taken, on the machine and inside
-module _ (b : ℕ) (g : Stage) (y : Sent) (q : sent (g .setting) (g .world .inside) b ≡ good y) where
+module _ (b : ℕ) (g : Stage) (y : Sent) (q : sent (g .rooms) (g .world .inside) b ≡ good y) where
   taken-is : acted (send b) g ≡ record { answer = took (y .effect .report); then = withWorld (done (g .world) y) g }
   unfolding acted writePort reportOf
   taken-is = ap (byteOn g) q
@@ -60,9 +60,9 @@ module _ (b : ℕ) (g : Stage) (y : Sent) (q : sent (g .setting) (g .world .insi
   unfolding run
   end-is es = ap (λ (z : Next Answer Stage). run acted es (z .then) .end) taken-is
 
-  step-is : (m : List ℕ) → fed (g .setting) (b ∷ m) (g .world .inside) ≡ fed (g .setting) m (done (g .world) y .inside)
+  step-is : (m : List ℕ) → fed (g .rooms) (b ∷ m) (g .world .inside) ≡ fed (g .rooms) m (done (g .world) y .inside)
   unfolding fed stepped done
-  step-is m = ap (λ (z : Result Sent). after (after z (λ v. good (effected (v .effect) (taken (v .taking) (g .world .inside))))) (λ j. fed (g .setting) m j)) q
+  step-is m = ap (λ (z : Result Sent). after (after z (λ v. good (effected (v .effect) (taken (v .taking) (g .world .inside))))) (λ j. fed (g .rooms) m j)) q
 
 -- the answer to a byte, and what follows
 abbrev AfterByte : List Event → Stage → Result Sent → List Answer
@@ -70,16 +70,16 @@ AfterByte es g x = let y : Next Answer Stage = byteOn g x in y .answer ∷ run a
 
 sent-go : (b : ℕ) (es : List Event) (g : Stage) (l : List ℕ) → firstOf b (sentIn es) ≡ some l
     → ((h : Stage) (m : List ℕ) → sentIn es ≡ some m → granted (run acted es h .answers) ≡ true → Fed es h m)
-    → (o : Option (List ℕ)) → sentIn es ≡ o → (x : Result Sent) → sent (g .setting) (g .world .inside) b ≡ x → granted (AfterByte es g x) ≡ true → Fed (send b ∷ es) g l
+    → (o : Option (List ℕ)) → sentIn es ≡ o → (x : Result Sent) → sent (g .rooms) (g .world .inside) b ≡ x → granted (AfterByte es g x) ≡ true → Fed (send b ∷ es) g l
 unfolding granted
 sent-go b es g l e ih none n x q ok = let z : firstOf b none ≡ some l = ap (firstOf b) (sym n) ∙ e in never (cc)
 sent-go b es g l e ih (some m) n (refused why) q ok = never (cc)
 sent-go b es g l e ih (some m) n (good y) q ok =
     let r = ih (withWorld (done (g .world) y) g) m n ok in
     record {
-      inside = ap (λ (v : List ℕ). fed (g .setting) v (g .world .inside)) (first-is b (sentIn es) l e m n) ∙ step-is b g y q m ∙ r .inside
+      inside = ap (λ (v : List ℕ). fed (g .rooms) v (g .world .inside)) (first-is b (sentIn es) l e m n) ∙ step-is b g y q m ∙ r .inside
           ∙ ap (λ (z : Stage). good (z .world .inside)) (sym (end-is b g y q es));
-      rooms = ap (λ (z : Stage). z .setting) (end-is b g y q es) ∙ r .rooms;
+      rooms = ap (λ (z : Stage). z .rooms) (end-is b g y q es) ∙ r .rooms;
     }
 
 -- an answer to a question is no refusal
@@ -92,11 +92,11 @@ asked-grants diskIn? w l = refl
 -- port reads and questions change nothing inside: what a sequence does there, its sent bytes do
 pub run-fed : (es : List Event) (g : Stage) (l : List ℕ) → sentIn es ≡ some l → granted (run acted es g .answers) ≡ true → Fed es g l
 unfolding run sentIn fed acted writePort reportOf afterStatus afterRead granted
-run-fed [] g l e ok = let z : [] ≡ l = cc in record { inside = ap (λ (v : List ℕ). fed (g .setting) v (g .world .inside)) (sym z); rooms = refl }
+run-fed [] g l e ok = let z : [] ≡ l = cc in record { inside = ap (λ (v : List ℕ). fed (g .rooms) v (g .world .inside)) (sym z); rooms = refl }
 run-fed (poll ∷ es) g l e ok = let r = run-fed es (acted poll g .then) l e ok in record { inside = r .inside; rooms = r .rooms }
 run-fed (read ∷ es) g l e ok = let r = run-fed es (acted read g .then) l e ok in record { inside = r .inside; rooms = r .rooms }
 run-fed (send b ∷ es) g l e ok =
-    sent-go b es g l e (run-fed es) (sentIn es) refl (sent (g .setting) (g .world .inside) b) refl ok
+    sent-go b es g l e (run-fed es) (sentIn es) refl (sent (g .rooms) (g .world .inside) b) refl ok
 run-fed (ask q ∷ es) g l e ok = let r = run-fed es g l e (sym (asked-grants q (g .world) (run acted es g .answers)) ∙ ok) in record { inside = r .inside; rooms = r .rooms }
 run-fed (switch on ∷ es) g l e ok = never (cc)
 run-fed (swap present t b ∷ es) g l e ok = never (cc)
@@ -117,7 +117,7 @@ abbrev pub writing : Bool → ℕ → ℕ → Disk → ℕ → SectorId → List
 writing m c x d c1 id held =
     record { motor = m; index = x; command = []; write = some (record { c1 = c1; id = id; held = held }); drives = driveOver c d }
 
-module _ (s : Setting) (m : Bool) (c x : ℕ) (d : Disk) where
+module _ (s : Rooms) (m : Bool) (c x : ℕ) (d : Disk) where
   module _ (p : List ℕ) (b : ℕ) (k : Command) (first : commandOf (byte (p ++ (b ∷ [])) 0) ≡ k) where
     -- a command that is not yet whole waits
     step-part : (length (p ++ (b ∷ [])) ≡ bytesFor k → ⊥) → stepped s (partly m c x d p) b ≡ good (partly m c x d (p ++ (b ∷ [])))

@@ -19,7 +19,7 @@ use Rattle.store.specs.Store.{contents}
 use Rattle.disk.specs.Change.{withContent}
 use Rattle.disk.specs.Calls.{endOf}
 use Rattle.codes.specs.declared.command.Command.the-variants.{ReadData}
-use Rattle.registers.specs.Boxes.{Setting, Inside, Front, World, Add, Serve, Sent, serves, responded}
+use Rattle.registers.specs.Boxes.{Rooms, Inside, Front, World, Add, Serve, Sent, serves, responded}
 use Rattle.registers.specs.declared.regs.Report.{Report}
 use Rattle.codes.specs.Table.{commandOf}
 use Rattle.registers.specs.Ports.{polled, Poll, Stays, Counts, Drops, afterStatus, given, readFrom, portByte, afterRead}
@@ -101,7 +101,7 @@ module _ (room : ℕ) (told : Report) (bytes reply : List ℕ) where
   served false g b e = never (cc)
 
   serves-them : (v : Bool) (g : Stage) (b : ℕ)
-      → sent (g .setting) (g .world .inside) b ≡ sends (Add b) (clearing (need v NoTransferRoom (tells told [] (Serve bytes reply))))
+      → sent (g .rooms) (g .world .inside) b ≡ sends (Add b) (clearing (need v NoTransferRoom (tells told [] (Serve bytes reply))))
       → granted (run acted (send b ∷ []) g .answers) ≡ true
       → (run acted (send b ∷ []) g .end .world .front .unread ≡ bytes) × (run acted (send b ∷ []) g .end .world .front .reply ≡ reply)
   unfolding run acted writePort reportOf
@@ -111,7 +111,7 @@ module _ (room : ℕ) (told : Report) (bytes reply : List ℕ) where
       (sym e) (served v g b) ok
 
 -- the last byte of a Read Data that finds one sector
-module _ (s : Setting) (m : Bool) (c x : ℕ) (new : Disk) (code c1 : ℕ) (id : SectorId) (eot gap dtl : ℕ) (z : Sector) where
+module _ (s : Rooms) (m : Bool) (c x : ℕ) (new : Disk) (code c1 : ℕ) (id : SectorId) (eot gap dtl : ℕ) (z : Sector) where
   abbrev Nine : List ℕ
   Nine = code ∷ c1 ∷ id .c ∷ id .h ∷ id .r ∷ id .n ∷ eot ∷ gap ∷ dtl ∷ []
 
@@ -177,14 +177,14 @@ read-back a d code c1 eot gap dtl g es fs gs ready save made back began last non
     let i : Inside = partly m (a .cylinder) x (savedBy a d) eight in
     let f = run-fed fs p eight (began .sends) (began .grants) in
     let e : good (q .world .inside) ≡ good i
-    = sym (f .inside) ∙ ap (fed (p .setting) eight) (saved-inside a d g es ready save made)
-    ∙ part-fed (p .setting) m (a .cylinder) x (savedBy a d) code ReadData (back .reads) (c1 ∷ a .id .c ∷ a .id .h ∷ a .id .r ∷ a .id .n ∷ eot ∷ gap ∷ []) (omega arith) in
+    = sym (f .inside) ∙ ap (fed (p .rooms) eight) (saved-inside a d g es ready save made)
+    ∙ part-fed (p .rooms) m (a .cylinder) x (savedBy a d) code ReadData (back .reads) (c1 ∷ a .id .c ∷ a .id .h ∷ a .id .r ∷ a .id .n ∷ eot ∷ gap ∷ []) (omega arith) in
     let inside-is : q .world .inside ≡ i = cc in
     let z : Sector = withContent (a .content) (save .sector) in
-    let sent-is = ap (λ (j : Inside). sent (q .setting) j dtl) inside-is
-    ∙ last-sent (q .setting) m (a .cylinder) x (savedBy a d) code c1 (a .id) eot gap dtl z (back .reads) (back .drive-0) (kept-read a d c1 eot save (back .same-head) (back .alone)) in
-    let front = serves-them (q .setting .transfer) _ (contents (z ∷ [])) _ (leb (length (contents (z ∷ []))) (q .setting .transfer)) q dtl sent-is (last .grants) in
+    let sent-is = ap (λ (j : Inside). sent (q .rooms) j dtl) inside-is
+    ∙ last-sent (q .rooms) m (a .cylinder) x (savedBy a d) code c1 (a .id) eot gap dtl z (back .reads) (back .drive-0) (kept-read a d c1 eot save (back .same-head) (back .alone)) in
+    let front = serves-them (q .rooms .transfer) _ (contents (z ∷ [])) _ (leb (length (contents (z ∷ []))) (q .rooms .transfer)) q dtl sent-is (last .grants) in
     handed gs (run acted (send dtl ∷ []) q .end) (a .content) (replyTo a c1 eot (save .sector))
     (front .0 ∙ kept-bytes a d c1 eot save)
-    (front .1 ∙ last-reply (q .setting) m (a .cylinder) x (savedBy a d) code c1 (a .id) eot gap dtl z (kept-long a d c1 eot save))
+    (front .1 ∙ last-reply (q .rooms) m (a .cylinder) x (savedBy a d) code c1 (a .id) eot gap dtl z (kept-long a d c1 eot save))
     none-lost (unfold replyTo in few)

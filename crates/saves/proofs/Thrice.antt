@@ -60,7 +60,7 @@ filling n = replicate n 0xAA
 
 -- a new controller, with a drive
 abbrev with : Slot → Stage
-with slot = record { setting = record { room = mostData; transfer = mostTransfer }; world = changeDisk slot newWorld }
+with slot = record { rooms = record { room = mostData; transfer = mostTransfer }; world = changeDisk slot newWorld }
 
 abbrev sentAll : Stage → List ℕ → Run Answer Stage
 sentAll g l = run acted (sendAll l) g

@@ -55,7 +55,7 @@ pub acted-unbroken : (e : Event) (g : Stage) → PutsUnbroken e → Unbroken (in
 unfolding acted PutsUnbroken afterStatus afterRead setMotor changeDisk writePort reportOf
 acted-unbroken poll g q h = h
 acted-unbroken read g q h = h
-acted-unbroken (send b) g q h = sent-unbroken g (sent (g .setting) (g .world .inside) b) h
+acted-unbroken (send b) g q h = sent-unbroken g (sent (g .rooms) (g .world .inside) b) h
 acted-unbroken (ask z) g q h = h
 acted-unbroken (switch on) g q h = h
 acted-unbroken (swap present t b) g q h = q

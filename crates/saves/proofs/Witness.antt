@@ -31,7 +31,7 @@ use Rattle.saves.proofs.ReadBack.{read-back}
 
 -- a new controller with a fresh disk in, and all the room that there can be
 abbrev pub start : Stage
-start = record { setting = record { room = mostData; transfer = mostTransfer }; world = changeDisk (Holds (good fresh)) newWorld }
+start = record { rooms = record { room = mostData; transfer = mostTransfer }; world = changeDisk (Holds (good fresh)) newWorld }
 
 -- a save to cylinder 7: 512 bytes to a sector
 abbrev with : ℕ → ℕ → Save

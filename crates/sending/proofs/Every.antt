@@ -11,7 +11,7 @@ use Rattle.fields.specs.Refusals.{Result, refused, good}
 use Rattle.fields.specs.Model.{sizeOf, Disk}
 use Rattle.codes.specs.declared.command.Command.{Command}
 use Rattle.codes.specs.Table.{commandOf, bytesFor}
-use Rattle.registers.specs.Boxes.{Setting, Inside, Writing, named, holding, Taking, Add, Hold, Response, Stay, Effect, Sent}
+use Rattle.registers.specs.Boxes.{Rooms, Inside, Writing, named, holding, Taking, Add, Hold, Response, Stay, Effect, Sent}
 use Rattle.commands.specs.Commands.{byte, obeyed, written}
 use Rattle.sending.specs.Machine.{sends, clearing, commandIf, commandByte, dataIf, dataByte, byteFor, sent}
 
@@ -34,7 +34,7 @@ module _ (P : Response → Option Disk → Type 0) where
   of-sends x (good e) q = q
 
   -- of the command that this byte makes whole, while no write is in progress, and of every write
-  module _ (s : Setting) (i : Inside) (b : ℕ) (still : P Stay none) where
+  module _ (s : Rooms) (i : Inside) (b : ℕ) (still : P Stay none) where
     abbrev Line : List ℕ
     Line = i .command ++ (b ∷ [])
 
@@ -67,6 +67,6 @@ module _ (P : Response → Option Disk → Type 0) where
       of-this = of-byte (i .write) refl
 
   -- of every command and every write
-  pub of-sent : (s : Setting) (i : Inside) → P Stay none → ((k : Command) (l : List ℕ) → OfEffect (obeyed s k l (i .drives) (i .index)))
+  pub of-sent : (s : Rooms) (i : Inside) → P Stay none → ((k : Command) (l : List ℕ) → OfEffect (obeyed s k l (i .drives) (i .index)))
       → ((w : Writing) → OfEffect (written s w (named (w .c1) (i .drives)))) → (b : ℕ) → OfSent (sent s i b)
   of-sent s i still obeys writes b = of-this s i b still (λ n e. obeys _ _) writes

@@ -32,11 +32,11 @@ use Rattle.registers.specs.declared.regs.Regs.{Regs}
 use Rattle.registers.specs.declared.regs.Pending.{Pending}
 use Rattle.registers.specs.declared.regs.Seek.{Seek}
 use Rattle.registers.specs.declared.regs.Seek.the-variants.{Idle, Running, Done}
-use Rattle.registers.specs.Boxes.{Setting, Slot, Holds, Drives, Writing, Inside, fitted, namedIf, named, seven, silent, serves, withCommand, withWrite, withSlot, holdingIn}
+use Rattle.registers.specs.Boxes.{Rooms, Slot, Holds, Drives, Writing, Inside, fitted, namedIf, named, seven, silent, serves, withCommand, withWrite, withSlot, holdingIn}
 use Rattle.registers.specs.Boxes.{Taking, Add, Hold, Change, Clear, MoveTo, Turn, Start, Finish, Response, Stay, Reply, ReplyIfNone, Seeking, Interrupt, Serve, Effect, Sent}
 use Rattle.registers.specs.Boxes.{taken, changed, allChanged, putIn, withReply, ifNone, interrupted, responded}
 use Rattle.codes.specs.Table.{commandOf, bytesFor}
-use Rattle.registers.specs.View.{settingOf, slotIf, slotOf, drivesOf, namedIn, writingOf, writingIf, insideOf, frontOf, worldOf, impossible, impossibleIn}
+use Rattle.registers.specs.View.{roomsOf, slotIf, slotOf, drivesOf, namedIn, writingOf, writingIf, insideOf, frontOf, worldOf, impossible, impossibleIn}
 use Rattle.registers.specs.declared.regs.Flag.the-variants as flag
 use Rattle.registers.specs.Calls.{diskIn}
 use Rattle.registers.specs.Settle.{declined, replied, regsTaken, heldTaken, regsChanged, regsAll, ifUnread, interruptedBy, regsResponded, regsOf}
@@ -224,7 +224,7 @@ module _ (r : Regs) (t d : List ℕ) where
       go true true h (refused why) w = tt
       go true true h (good y) w = q y h w
 
-  format-lays : (x l : List ℕ) → LaysE (formatTrack (settingOf d x) l (namedIn (byte l 1) r t d))
+  format-lays : (x l : List ℕ) → LaysE (formatTrack (roomsOf d x) l (namedIn (byte l 1) r t d))
   unfolding formatTrack
   format-lays x l = named-lays (byte l 1) _ _ tt (λ y h w. go y h w (fitting (roomOf d) (Set y)) refl)
     where
@@ -236,7 +236,7 @@ module _ (r : Regs) (t d : List ℕ) where
       go y h w (refused why) e = tt
       go y h w (good z) e = (h, format-accepted t d y w (Set y) z e)
 
-  written-lays : (x : List ℕ) (w : Writing) → LaysE (written (settingOf d x) w (namedIn (w .c1) r t d))
+  written-lays : (x : List ℕ) (w : Writing) → LaysE (written (roomsOf d x) w (namedIn (w .c1) r t d))
   unfolding written saveAt
   written-lays x w = named-lays (w .c1) _ _ tt (λ y h e. go y h e (matchAt y (headOf (w .c1)) (namedIn (w .c1) r t d .cylinder) (w .id)) (sectorAt y (headOf (w .c1)) (namedIn (w .c1) r t d .cylinder) (w .id)))
     where
@@ -248,11 +248,11 @@ module _ (r : Regs) (t d : List ℕ) where
       put true m y h e q = (h, save-accepted t d y e (headOf (w .c1)) (namedIn (w .c1) r t d .cylinder) (w .id) (w .held) (leb-true _ _ q))
       put false m y h e q = tt
 
-      go : (y : Disk) → r .drive .disk ≡ true → diskOf t d ≡ good y → (m : Match) (s : Found Sector) → LaysE (saveAt (settingOf d x) w m (New y) s)
+      go : (y : Disk) → r .drive .disk ≡ true → diskOf t d ≡ good y → (m : Match) (s : Found Sector) → LaysE (saveAt (roomsOf d x) w m (New y) s)
       go y h e m nothing = tt
       go y h e m (found k s) = put (leb (byteCount (New y)) (roomOf d)) m y h e refl
 
-  obeyed-lays : (x : List ℕ) (k : Command) (l : List ℕ) → LaysE (obeyed (settingOf d x) k l (drivesOf r t d) (r .index))
+  obeyed-lays : (x : List ℕ) (k : Command) (l : List ℕ) → LaysE (obeyed (roomsOf d x) k l (drivesOf r t d) (r .index))
   unfolding obeyed
   obeyed-lays x Specify l = tt
   obeyed-lays x SenseDrive l = tt
@@ -260,17 +260,17 @@ module _ (r : Regs) (t d : List ℕ) where
   obeyed-lays x SenseInterrupt l = tt
   obeyed-lays x SeekTo l = unput-lays (seekTo (byte l 2) (namedIn (byte l 1) r t d)) (quiet-seek _ _ .0)
   obeyed-lays x Version l = tt
-  obeyed-lays x ReadData l = unput-lays (readData (settingOf d x) false l (namedIn (byte l 1) r t d)) (unput-read _ _ _ _)
-  obeyed-lays x ReadDeleted l = unput-lays (readData (settingOf d x) true l (namedIn (byte l 1) r t d)) (unput-read _ _ _ _)
+  obeyed-lays x ReadData l = unput-lays (readData (roomsOf d x) false l (namedIn (byte l 1) r t d)) (unput-read _ _ _ _)
+  obeyed-lays x ReadDeleted l = unput-lays (readData (roomsOf d x) true l (namedIn (byte l 1) r t d)) (unput-read _ _ _ _)
   obeyed-lays x WriteData l = unput-lays (writeData (byte l 1) (idOf l) (namedIn (byte l 1) r t d)) (quiet-write _ _ _ .0)
   obeyed-lays x ReadId l = unput-lays (readId (byte l 1) (r .index) (namedIn (byte l 1) r t d)) (quiet-id _ _ _ .0)
   obeyed-lays x FormatTrack l = format-lays x l
   obeyed-lays x Unserved l = tt
   obeyed-lays x Invalid l = tt
 
-  sent-lays : (x h : List ℕ) (b : ℕ) → LaysS (sent (settingOf d x) (insideOf r h (slotOf r t d)) b)
+  sent-lays : (x h : List ℕ) (b : ℕ) → LaysS (sent (roomsOf d x) (insideOf r h (slotOf r t d)) b)
   unfolding insideOf
-  sent-lays x h = of-sent (λ response put. Lays put) (settingOf d x) (insideOf r h (slotOf r t d)) tt (obeyed-lays x) (written-lays x)
+  sent-lays x h = of-sent (λ response put. Lays put) (roomsOf d x) (insideOf r h (slotOf r t d)) tt (obeyed-lays x) (written-lays x)
 
 -- ---- a whole byte
 
@@ -283,11 +283,11 @@ sends-takes : (k : Taking) (e : Result Effect) → Takes k (sends k e)
 sends-takes k (refused why) = tt
 sends-takes k (good e) = refl
 
-command-takes : (s : Setting) (b : ℕ) (l : List ℕ) (d : Drives) (i : ℕ) → Takes (Add b) (commandByte s b l d i)
+command-takes : (s : Rooms) (b : ℕ) (l : List ℕ) (d : Drives) (i : ℕ) → Takes (Add b) (commandByte s b l d i)
 unfolding commandByte
 command-takes s b l d i = sends-takes (Add b) (commandIf (eqb (length l) (bytesFor (commandOf (byte l 0)))) s (commandOf (byte l 0)) l d i)
 
-data-takes : (s : Setting) (b : ℕ) (w : Writing) (d : Drives) → Takes (Hold b) (dataByte s b w d)
+data-takes : (s : Rooms) (b : ℕ) (w : Writing) (d : Drives) → Takes (Hold b) (dataByte s b w d)
 unfolding dataByte
 data-takes s b w d = sends-takes (Hold b) (dataIf (eqb (length (w .held)) (sizeOf (w .id .n))) s w d)
 
@@ -314,20 +314,20 @@ module _ (r : Regs) (b : ℕ) (h t d x : List ℕ) (ok : impossibleIn x r ≡ fa
       = seen-response sh r₂ x (same .few (possible r (possible-in x r ok) .fill-in)) (same .long seven) ∙ ap (responded sh) (same .front x) in
       (refl, λ n. record { inside = (j ∙ sym m ∙ ap (putIn (s .effect .put)) i) n; front = f n })
 
-  seen-sent : (f : Bool) → r .write .on ≡ f → Sees r h t d x (leftOf (sent (settingOf d x) (insideOf r h (slotOf r t d)) b) r h t d x) (reportOf (settingOf d x) (worldOf r h t d x) b) (writePort (settingOf d x) (worldOf r h t d x) b)
+  seen-sent : (f : Bool) → r .write .on ≡ f → Sees r h t d x (leftOf (sent (roomsOf d x) (insideOf r h (slotOf r t d)) b) r h t d x) (reportOf (roomsOf d x) (worldOf r h t d x) b) (writePort (roomsOf d x) (worldOf r h t d x) b)
   unfolding writePort reportOf
   seen-sent true e =
       let g : r .write .taken < length h = omega (arith, taken-few (r .write) (possible r (possible-in x r ok) .write-in) e, size-most (r .write .id .n)) in
-      seen-byte (sent (settingOf d x) (insideOf r h (slotOf r t d)) b) (Hold b) g (subst (Takes (Hold b)) (sent-data r b h t d x e) (data-takes _ b _ _)) (sent-lays r t d x h b)
+      seen-byte (sent (roomsOf d x) (insideOf r h (slotOf r t d)) b) (Hold b) g (subst (Takes (Hold b)) (sent-data r b h t d x e) (data-takes _ b _ _)) (sent-lays r t d x h b)
   seen-sent false e =
       let g : r .count < length (r .command) = omega (arith, count-few r (possible-in x r ok)) in
-      seen-byte (sent (settingOf d x) (insideOf r h (slotOf r t d)) b) (Add b) g (subst (Takes (Add b)) (sent-command r b h t d x e) (command-takes _ b _ _ _)) (sent-lays r t d x h b)
+      seen-byte (sent (roomsOf d x) (insideOf r h (slotOf r t d)) b) (Add b) g (subst (Takes (Add b)) (sent-command r b h t d x e) (command-takes _ b _ _ _)) (sent-lays r t d x h b)
 
   -- a byte sent leaves, and tells, what the machine's step says of the boxes seen
-  pub write-seen : Sees r h t d x (dataWrite r b h t d x) (reportOf (settingOf d x) (worldOf r h t d x) b) (writePort (settingOf d x) (worldOf r h t d x) b)
+  pub write-seen : Sees r h t d x (dataWrite r b h t d x) (reportOf (roomsOf d x) (worldOf r h t d x) b) (writePort (roomsOf d x) (worldOf r h t d x) b)
   unfolding dataWrite
   write-seen =
-      subst (λ (z : Result Sent). Sees r h t d x (leftOf z r h t d x) (reportOf (settingOf d x) (worldOf r h t d x) b) (writePort (settingOf d x) (worldOf r h t d x) b)) (sent-right r b h t d x ok held) (seen-sent (r .write .on) refl)
+      subst (λ (z : Result Sent). Sees r h t d x (leftOf z r h t d x) (reportOf (roomsOf d x) (worldOf r h t d x) b) (writePort (roomsOf d x) (worldOf r h t d x) b)) (sent-right r b h t d x ok held) (seen-sent (r .write .on) refl)
 
 -- numbers that no controller has, and held bytes of another length, are refusal 1, and change nothing
 module _ (r : Regs) (b : ℕ) (h t d x : List ℕ) where

@@ -22,11 +22,11 @@ use Rattle.registers.specs.declared.regs.Receipt.{Receipt}
 use Rattle.registers.specs.declared.regs.Receipt.the-variants as receipt
 use Rattle.registers.specs.declared.regs.Written.{Written}
 use Rattle.registers.specs.declared.regs.Report.{Report}
-use Rattle.registers.specs.Boxes.{silent, Setting, Drives, Inside, Add, Hold, Clear, Effect, Sent}
+use Rattle.registers.specs.Boxes.{silent, Rooms, Drives, Inside, Add, Hold, Clear, Effect, Sent}
 use Rattle.codes.specs.Table.{commandOf, bytesFor}
 use Rattle.commands.specs.Commands.{byte, formatTrack, obeyed}
 use Rattle.sending.specs.Machine.{sends, clearing, commandIf, commandByte, dataIf, dataByte, byteFor, sent}
-use Rattle.registers.specs.View.{settingOf, slotOf, drivesOf, namedIn, writingOf, writingIf, insideOf, impossibleIn}
+use Rattle.registers.specs.View.{roomsOf, slotOf, drivesOf, namedIn, writingOf, writingIf, insideOf, impossibleIn}
 use Rattle.registers.specs.Settle.{accepted, declined, regsTaken, regsChanged, regsAll, regsResponded, regsOf, keptIf, kept}
 use Rattle.commands.specs.Lent.{tableWith, dataWith, tableAfter, dataAfter, Stores, Ran, ran, ranOf, writtenHere, ranHere, Left, left, leftOf}
 use Rattle.sending.specs.Calls.{commandHere, dataHere, impossibleWith, sentTo, dataWrite}
@@ -36,7 +36,7 @@ use Rattle.fields.specs.Capacities.{mostHeld}
 -- ---- a byte of a command
 
 -- of the array only the command's bytes count
-front-same : (s : Setting) (k : Command) (l : List ℕ) (d : Drives) (index : ℕ) → length l ≡ 9
+front-same : (s : Rooms) (k : Command) (l : List ℕ) (d : Drives) (index : ℕ) → length l ≡ 9
     → obeyed s k l d index ≡ obeyed s k (take (bytesFor k) l) d index
 unfolding obeyed formatTrack
 front-same s Specify l d i h = refl
@@ -94,7 +94,7 @@ module _ (r : Regs) (b : ℕ) (h t d x : List ℕ) where
           rw (command-is, e)
 
       abbrev Obeyed : List ℕ → Result Effect
-      Obeyed l = obeyed (settingOf d x) k l (drivesOf r t d) (r .index)
+      Obeyed l = obeyed (roomsOf d x) k l (drivesOf r t d) (r .index)
 
       command-whole : r .count + 1 ≡ n → (a : Written) (t′ d′ x′ : List ℕ)
           → ran a t′ d′ x′ ≡ ranOf (Obeyed Array) (regsChanged Clear (regsTaken (Add b) r)) t d x
@@ -104,7 +104,7 @@ module _ (r : Regs) (b : ℕ) (h t d x : List ℕ) where
           let m : r .count + 1 ≡ bytesFor k = q ∙ en in
           let f : eqb (length All) (bytesFor k) ≡ true = eq-eqb _ _ (all-length ∙ m) in
           let g : Obeyed Array ≡ Obeyed All =
-          front-same (settingOf d x) k Array (drivesOf r t d) (r .index) array-long
+          front-same (roomsOf d x) k Array (drivesOf r t d) (r .index) array-long
           ∙ ap (λ (j : ℕ). Obeyed (take j Array)) (sym m)
           ∙ ap Obeyed (sym all-list) in
           rw (command-is, f)
@@ -171,7 +171,7 @@ module _ (r : Regs) (b : ℕ) (h t d x : List ℕ) (room : r .write .taken < len
         let e : Result Effect = writtenHere Whole r t d x in
         rw f
         ((λ i. left (kept r (q .0 i)) (heldBack (q .0 i .receipt)) (q .1 .0 i) (q .1 .1 i) x)
-        ∙ back-is e (still-written (settingOf d x) (writingOf (r .write) Whole) (namedIn (r .write .c1) r t d)))
+        ∙ back-is e (still-written (roomsOf d x) (writingOf (r .write) Whole) (namedIn (r .write .c1) r t d)))
 
     module _ (taken : Regs) (l : List ℕ) (et : taken ≡ regsTaken (Hold b) r) (el : l ≡ take (r .write .taken + 1) Held) where
       pub data-good : (told : Report) → a .receipt ≡ receipt.Good told → Ended l taken → left a Held t′ d′ x ≡ leftOf (dataHere r b h t d x) r h t d x
@@ -212,30 +212,30 @@ module _ (r : Regs) (b : ℕ) (h t d x : List ℕ) where
   unfolding dataWrite sentTo leftOf
   write-wrong a e f = rw (e, f)
 
-  for-write : (f : Bool) (p : Pending) (s : Setting) (i : Inside) → f ≡ true
+  for-write : (f : Bool) (p : Pending) (s : Rooms) (i : Inside) → f ≡ true
       → dataByte s b (writingOf p (take (p .taken) h ++ (b ∷ []))) (i .drives) ≡ byteFor s i b (writingIf f p h)
   unfolding byteFor
   for-write true p s i q = refl
   for-write false p s i q = never (cc)
 
-  for-command : (f : Bool) (p : Pending) (s : Setting) (i : Inside) → f ≡ false
+  for-command : (f : Bool) (p : Pending) (s : Rooms) (i : Inside) → f ≡ false
       → commandByte s b (i .command ++ (b ∷ [])) (i .drives) (i .index) ≡ byteFor s i b (writingIf f p h)
   unfolding byteFor
   for-command false p s i q = refl
   for-command true p s i q = never (cc)
 
   -- else the machine is asked
-  pub sent-right : impossibleIn x r ≡ false → length h ≡ mostHeld → sent (settingOf d x) (insideOf r h (slotOf r t d)) b ≡ sentTo r b h t d x
+  pub sent-right : impossibleIn x r ≡ false → length h ≡ mostHeld → sent (roomsOf d x) (insideOf r h (slotOf r t d)) b ≡ sentTo r b h t d x
   unfolding sentTo
   sent-right e l = rw (right-with r h x e l)
 
-  pub sent-data : r .write .on ≡ true → dataHere r b h t d x ≡ sent (settingOf d x) (insideOf r h (slotOf r t d)) b
+  pub sent-data : r .write .on ≡ true → dataHere r b h t d x ≡ sent (roomsOf d x) (insideOf r h (slotOf r t d)) b
   unfolding sent insideOf
-  sent-data q = for-write (r .write .on) (r .write) (settingOf d x) (insideOf r h (slotOf r t d)) q
+  sent-data q = for-write (r .write .on) (r .write) (roomsOf d x) (insideOf r h (slotOf r t d)) q
 
-  pub sent-command : r .write .on ≡ false → commandHere r b t d x ≡ sent (settingOf d x) (insideOf r h (slotOf r t d)) b
+  pub sent-command : r .write .on ≡ false → commandHere r b t d x ≡ sent (roomsOf d x) (insideOf r h (slotOf r t d)) b
   unfolding sent insideOf
-  sent-command q = for-command (r .write .on) (r .write) (settingOf d x) (insideOf r h (slotOf r t d)) q
+  sent-command q = for-command (r .write .on) (r .write) (roomsOf d x) (insideOf r h (slotOf r t d)) q
 
   -- what is left of a byte, where the numbers are possible
   pub left-data : (y : Left) → impossibleIn x r ≡ false → length h ≡ mostHeld → r .write .on ≡ true → y ≡ leftOf (dataHere r b h t d x) r h t d x → y ≡ dataWrite r b h t d x

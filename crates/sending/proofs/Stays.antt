@@ -22,10 +22,10 @@ use Rattle.registers.specs.declared.regs.Regs.{Regs}
 use Rattle.registers.specs.declared.regs.Seek.{Seek}
 use Rattle.registers.specs.declared.regs.Seek.the-variants.{Idle, Running, Done}
 use Rattle.registers.specs.declared.regs.Written.{Written}
-use Rattle.registers.specs.Boxes.{Setting, Slot, Empty, Holds, Inside, Front, World, Named, named, serves, interrupted, responded}
+use Rattle.registers.specs.Boxes.{Rooms, Slot, Empty, Holds, Inside, Front, World, Named, named, serves, interrupted, responded}
 use Rattle.registers.specs.Boxes.{Response, Stay, Reply, ReplyIfNone, Seeking, Interrupt, Serve, Effect, Sent}
 use Rattle.registers.specs.Ports.{setMotor, changeDisk}
-use Rattle.registers.specs.View.{settingOf, slotOf, insideOf, frontOf, impossible}
+use Rattle.registers.specs.View.{roomsOf, slotOf, insideOf, frontOf, impossible}
 use Rattle.registers.specs.Calls.{switchedIf, motorSet, diskSet}
 use Rattle.registers.specs.Settle.{regsWithMotor, regsWithDrive}
 use Rattle.commands.specs.Commands.{byte, idOf, tells, does, notReady, whenReady, seekTo, servedAs, readData, writeData, written, readId, formatTrack, obeyed}
@@ -36,7 +36,7 @@ use Rattle.sending.specs.Machine.{sent, done, writePort}
 use Rattle.sending.specs.Calls.{impossibleWith, sentTo, dataWrite}
 use Rattle.sending.proofs.Every.{OfEffect, OfSent, of-this}
 
-module _ (s : Setting) (i : Inside) (b : ℕ) where
+module _ (s : Rooms) (i : Inside) (b : ℕ) where
   -- data are served only by such a byte
   abbrev Serves : Response → Type 0
   Serves Stay = Unit {0}
@@ -131,7 +131,7 @@ module _ (s : Setting) (i : Inside) (b : ℕ) where
   front-stays (Serve bytes reply) f q = inr q
 
 -- A byte that is taken leaves the unread data as they are, or it ends a read that finds a sector, and they are the contents of what it finds.
-pub unread-stays : (s : Setting) (w v : World) (b : ℕ) → writePort s w b ≡ good v
+pub unread-stays : (s : Rooms) (w v : World) (b : ℕ) → writePort s w b ≡ good v
     → (v .front .unread ≡ w .front .unread) ⊎ EndsRead (w .inside) b (v .front .unread)
 unfolding writePort done
 unread-stays s w v b e = by (sent s (w .inside) b) (sent-serves s (w .inside) b) e
@@ -160,7 +160,7 @@ module _ (r : Regs) (b : ℕ) (h t d x : List ℕ) where
   abbrev pub I : Inside
   I = insideOf r h (slotOf r t d)
 
-  buffer-stays : (y : Response) → Serves (settingOf d x) I b y → (transferWith y x ≡ x) ⊎ Refilled I b x (transferWith y x)
+  buffer-stays : (y : Response) → Serves (roomsOf d x) I b y → (transferWith y x ≡ x) ⊎ Refilled I b x (transferWith y x)
   buffer-stays Stay q = inl refl
   buffer-stays (Reply z) q = inl refl
   buffer-stays (ReplyIfNone z) q = inl refl
@@ -176,15 +176,15 @@ module _ (r : Regs) (b : ℕ) (h t d x : List ℕ) where
       Stays : Result Sent → Type 0
       Stays y = leftOf y r h t d x ≡ left a h′ t′ d′ x′ → (x′ ≡ x) ⊎ Refilled I b x x′
 
-      by : (y : Result Sent) → OfSent (λ response put. Serves (settingOf d x) I b response) y → Stays y
+      by : (y : Result Sent) → OfSent (λ response put. Serves (roomsOf d x) I b response) y → Stays y
       by (refused why) q e = let z : x ≡ x′ = cc in inl (sym z)
       by (good y) q e =
           let z : transferWith (y .effect .response) x ≡ x′ = cc in
           subst (λ (u : List ℕ). (u ≡ x) ⊎ Refilled I b x u) z (buffer-stays (y .effect .response) q)
 
-      asked : (v : Bool) → Stays (need (not v) BadController (sent (settingOf d x) I b))
+      asked : (v : Bool) → Stays (need (not v) BadController (sent (roomsOf d x) I b))
       asked true = by (refused BadController) tt
-      asked false = by (sent (settingOf d x) I b) (sent-serves (settingOf d x) I b)
+      asked false = by (sent (roomsOf d x) I b) (sent-serves (roomsOf d x) I b)
 
 -- Neither call on motor or disk is lent the transfer buffer: what is then seen in front is what was.
 module _ (r : Regs) (x : List ℕ) where

@@ -9,16 +9,16 @@ use Rattle.fields.specs.Refusals.{Result, need}
 use Rattle.fields.specs.declared.refusal.Refusal.the-variants.{BadController}
 use Rattle.registers.specs.declared.regs.Regs.{Regs}
 use Rattle.registers.specs.Boxes.{Sent}
-use Rattle.registers.specs.View.{settingOf, writingOf, slotOf, drivesOf, insideOf, impossibleIn}
+use Rattle.registers.specs.View.{roomsOf, writingOf, slotOf, drivesOf, insideOf, impossibleIn}
 use Rattle.sending.specs.Machine.{commandByte, dataByte, sent}
 use Rattle.commands.specs.Lent.{Left, leftOf}
 
 -- what the machine says of a byte of a command, and of a byte of a write, by the boxes that are seen
 abbrev pub commandHere : Regs → ℕ → List ℕ → List ℕ → List ℕ → Result Sent
-commandHere r b t d x = commandByte (settingOf d x) b (take (r .count) (r .command) ++ (b ∷ [])) (drivesOf r t d) (r .index)
+commandHere r b t d x = commandByte (roomsOf d x) b (take (r .count) (r .command) ++ (b ∷ [])) (drivesOf r t d) (r .index)
 
 abbrev pub dataHere : Regs → ℕ → List ℕ → List ℕ → List ℕ → List ℕ → Result Sent
-dataHere r b h t d x = dataByte (settingOf d x) b (writingOf (r .write) (take (r .write .taken) h ++ (b ∷ []))) (drivesOf r t d)
+dataHere r b h t d x = dataByte (roomsOf d x) b (writingOf (r .write) (take (r .write .taken) h ++ (b ∷ []))) (drivesOf r t d)
 
 -- in a call that is lent the held bytes too: these are not 1,024, or the numbers are impossible
 unfoldable pub impossibleWith : List ℕ → List ℕ → Regs → Bool
@@ -26,7 +26,7 @@ impossibleWith h x r = not (eqb (length h) mostHeld) || impossibleIn x r
 
 -- 1, or what the machine says of the boxes that are seen
 unfoldable pub sentTo : Regs → ℕ → List ℕ → List ℕ → List ℕ → List ℕ → Result Sent
-sentTo r b h t d x = need (not (impossibleWith h x r)) BadController (sent (settingOf d x) (insideOf r h (slotOf r t d)) b)
+sentTo r b h t d x = need (not (impossibleWith h x r)) BadController (sent (roomsOf d x) (insideOf r h (slotOf r t d)) b)
 
 unfoldable pub dataWrite : Regs → ℕ → List ℕ → List ℕ → List ℕ → List ℕ → Left
 dataWrite r b h t d x = leftOf (sentTo r b h t d x) r h t d x

@@ -7,7 +7,7 @@ use lib.ListN.{length}
 use lib.Dec.{eqb}
 use Rattle.fields.specs.Refusals.{Result, refused, good, after}
 use Rattle.fields.specs.Model.{sizeOf}
-use Rattle.registers.specs.Boxes.{Setting, Drives, Writing, Inside, World, named, holding, taken, allChanged, putIn, responded}
+use Rattle.registers.specs.Boxes.{Rooms, Drives, Writing, Inside, World, named, holding, taken, allChanged, putIn, responded}
 use Rattle.registers.specs.Boxes.{Taking, Add, Hold, Clear, Stay, Effect, Sent, silent}
 use Rattle.registers.specs.declared.regs.Report.{Report}
 use Rattle.codes.specs.declared.command.Command.{Command}
@@ -26,29 +26,29 @@ clearing (refused why) = refused why
 clearing (good e) = good record { changes = Clear ∷ e .changes; response = e .response; put = e .put; report = e .report }
 
 -- a command whose last byte has come is obeyed
-unfoldable pub commandIf : Bool → Setting → Command → List ℕ → Drives → ℕ → Result Effect
+unfoldable pub commandIf : Bool → Rooms → Command → List ℕ → Drives → ℕ → Result Effect
 commandIf true s which command d index = clearing (obeyed s which command d index)
 commandIf false s which command d index = does [] Stay
 
-unfoldable pub commandByte : Setting → ℕ → List ℕ → Drives → ℕ → Result Sent
+unfoldable pub commandByte : Rooms → ℕ → List ℕ → Drives → ℕ → Result Sent
 commandByte s b command d index =
     let which : Command = commandOf (byte command 0) in
     sends (Add b) (commandIf (eqb (length command) (bytesFor which)) s which command d index)
 
 -- a write of which the last byte has come is done
-unfoldable pub dataIf : Bool → Setting → Writing → Drives → Result Effect
+unfoldable pub dataIf : Bool → Rooms → Writing → Drives → Result Effect
 dataIf true s w d = written s w (named (w .c1) d)
 dataIf false s w d = does [] Stay
 
-unfoldable pub dataByte : Setting → ℕ → Writing → Drives → Result Sent
+unfoldable pub dataByte : Rooms → ℕ → Writing → Drives → Result Sent
 dataByte s b w d = sends (Hold b) (dataIf (eqb (length (w .held)) (sizeOf (w .id .n))) s w d)
 
 -- a byte is one of a write in progress, or else of a command
-unfoldable pub byteFor : Setting → Inside → ℕ → Option Writing → Result Sent
+unfoldable pub byteFor : Rooms → Inside → ℕ → Option Writing → Result Sent
 byteFor s i b none = commandByte s b (i .command ++ (b ∷ [])) (i .drives) (i .index)
 byteFor s i b (some w) = dataByte s b (holding b w) (i .drives)
 
-unfoldable pub sent : Setting → Inside → ℕ → Result Sent
+unfoldable pub sent : Rooms → Inside → ℕ → Result Sent
 sent s i b = byteFor s i b (i .write)
 
 -- first it is taken, then what it completes is done
@@ -59,7 +59,7 @@ done w x = record {
 }
 
 -- the next state
-unfoldable pub writePort : Setting → World → ℕ → Result World
+unfoldable pub writePort : Rooms → World → ℕ → Result World
 writePort s w b = after (sent s (w .inside) b) (λ x. good (done w x))
 
 -- and what the host is told of it, nothing where it is refused (2026-05)
@@ -67,5 +67,5 @@ abbrev pub reported : Result Sent → Report
 reported (refused why) = silent
 reported (good x) = x .effect .report
 
-unfoldable pub reportOf : Setting → World → ℕ → Report
+unfoldable pub reportOf : Rooms → World → ℕ → Report
 reportOf s w b = reported (sent s (w .inside) b)

@@ -9,7 +9,7 @@ use Rattle.fields.specs.Refusals.{Result, refused, good, numberOf}
 use Rattle.fields.specs.Model.{sizeOf}
 use Rattle.image.specs.Dsk.{Dsk, dskOf}
 use Rattle.store.specs.Fresh.{fresh}
-use Rattle.registers.specs.Boxes.{Setting, Slot, Empty, Holds, World, newWorld}
+use Rattle.registers.specs.Boxes.{Rooms, Slot, Empty, Holds, World, newWorld}
 use Rattle.registers.specs.Ports.{status, afterStatus, portByte, afterRead, changeDisk}
 use Rattle.sending.specs.Machine.{writePort}
 
@@ -27,7 +27,7 @@ pub data Case : Type 0 where
   loads : List ℕ → ℕ → Case
 
 -- all the room that there can be
-abbrev pub ample : Setting
+abbrev pub ample : Rooms
 ample = record { room = mostData; transfer = mostTransfer }
 
 -- whether the calls answer what they are said to, and none is refused
