@@ -17,7 +17,6 @@ use Rattle.tracks.specs.Rows.{idsAt, idsFrom}
 use Rattle.store.specs.Find.{Found, nothing, found}
 use Rattle.store.specs.Search.{sectorAt, matchAt, sectorByIndex, readAt}
 use Rattle.store.specs.Store.{roomOf, transferRoom, contents, diskOf}
-use Rattle.store.specs.Fresh.{formatted}
 use Rattle.store.specs.Calls as looks
 use Rattle.disk.specs.Change.{saved, setTrack}
 use Rattle.disk.specs.Calls as calls
@@ -37,14 +36,17 @@ use Rattle.codes.specs.Second.{u, headOf}
 use Rattle.registers.specs.declared.regs.Regs.{Regs}
 use Rattle.registers.specs.declared.regs.Drive.{Drive}
 use Rattle.registers.specs.declared.regs.Report.{Report}
+use Rattle.registers.specs.declared.regs.Shape.{Shape}
 use Rattle.registers.specs.declared.regs.Written.{Written}
-use Rattle.registers.specs.Boxes.{Empty, Holds, fitted, Named, seven, silent, serves, Turn, Start, Finish, Stay, Reply, ReplyIfNone, Serve, Effect}
-use Rattle.registers.specs.View.{slotIf, roomsOf, namedIn, writingOf, namedAs}
+use Rattle.registers.specs.Boxes.{Empty, Holds, IntoSector, IntoTrack, fitted, Named, seven, silent, serves, Change, Turn, Start, Finish, Effect}
+use Rattle.registers.specs.Boxes.{Stay, Reply, ReplyIfNone, Serve}
+use Rattle.registers.specs.View.{slotIf, roomsOf, namedIn, namedAs}
 use Rattle.registers.specs.Settle.{accepted, declined, driveNamed, replied, regsWithUnread, regsChanged, regsAll, regsResponded, regsOf}
 use Rattle.registers.proofs.Drives.{drive-shown, drive-empty, drive-holds}
 use Rattle.commands.specs.Commands.{byte, idOf, sizesOf, ready, tells, does, puts, noId, missing, notReady, senseIf, senseDrive, seekIf, seekTo}
-use Rattle.commands.specs.Commands.{readReply, servedAs, readData, startAt, writeData, writeReply, saveAt, written, idGiven, notReadyId, readId, formatOf, formatTrack}
-use Rattle.commands.specs.Lent.{Fills, Stores, readHere, formatHere, writtenHere}
+use Rattle.commands.specs.Commands.{readReply, servedAs, readData, startAt, writeData, writeReply, saveAt, writtenSector, idGiven, notReadyId, readId}
+use Rattle.commands.specs.Commands.{shapeOf, trackAs, formatReply, laysTrack, numberedFor, formatAtOnce, hasPhase, formatIf, formatTrack, writtenTrack, writtenInto}
+use Rattle.commands.specs.Lent.{Fills, Stores, readHere, atOnceHere, formatHere, intoHere}
 
 -- ---- Sense Drive, Recalibrate and Seek
 
@@ -97,7 +99,7 @@ id-disk c1 index f d (good x) = id-named c1 (sectorByIndex x (headOf c1) (d .cyl
 abbrev pub startEffect : ℕ → SectorId → Has → Result Effect
 startEffect c1 x (has.Refused why) = refused why
 startEffect c1 x has.No = does [] (Reply (missing c1))
-startEffect c1 x (has.Yes m) = tells (serves m) (Start c1 x ∷ []) Stay
+startEffect c1 x (has.Yes m) = tells (serves m) (Start c1 (IntoSector x) ∷ []) Stay
 
 start-found : (c1 : ℕ) (x : SectorId) (m : Match) (s : Found Sector) → startEffect c1 x (looks.foundOf m s) ≡ startAt c1 x m s
 unfolding startAt
@@ -233,65 +235,117 @@ read-short t b side cylinder eot n x x′ a a′ f e = subst Short (sym (ap answ
 
 -- ---- Format
 
--- the track whose IDs were numbered is the one that the command asks for
-pub track-asked : (command : List ℕ) (cylinder h : ℕ) (ids t b : List ℕ) → h ≡ headOf (byte command 1)
-    → idsAt ids 0 (byte command 3) ≡ idsFrom cylinder h (byte command 2) 1 (byte command 3)
-    → calls.setOf h cylinder (formatted cylinder h (byte command 2) (byte command 4) (byte command 5) (idsAt ids 0 (byte command 3))) t b
-    ≡ calls.setOf (headOf (byte command 1)) cylinder (formatOf command cylinder) t b
-track-asked command cylinder h ids t b p q =
-    ap (λ (xs : List SectorId). calls.setOf h cylinder (formatted cylinder h (byte command 2) (byte command 4) (byte command 5) xs) t b) q
-    ∙ ap (λ (x : ℕ). calls.setOf x cylinder (formatted cylinder x (byte command 2) (byte command 4) (byte command 5)
-    (idsFrom cylinder x (byte command 2) 1 (byte command 3))) t b) p
-
-module _ (r : Regs) (command t b : List ℕ) (d : Drive) (e : d ≡ driveNamed (byte command 1) r) where
+-- a track that is laid, with what the changes leave of the registers
+module _ (r : Regs) (xs : List Change) (c1 : ℕ) (z : Shape) (t b : List ℕ) where
   -- by what `set_track` answers
-  abbrev pub formatRegs : Done → Written
-  formatRegs (done.Refused why) = declined why r
-  formatRegs done.Good = accepted silent (replied (seven (u (byte command 1)) 0 0 (record { c = 0; h = 0; r = 0; n = byte command 2 })) r)
+  abbrev pub laidRegs : Done → Written
+  laidRegs (done.Refused why) = declined why r
+  laidRegs done.Good = accepted silent (replied (formatReply c1 (z .size)) (regsAll xs r))
 
-  abbrev Reply7 : Disk → Result Effect
-  Reply7 new = puts silent [] new (seven (u (byte command 1)) 0 0 (record { c = 0; h = 0; r = 0; n = byte command 2 }))
+  abbrev Laid : Result Effect → looks.Outcome Done → Type 0
+  Laid y (looks.outcome a t′ b′) = Stores y r t b (laidRegs a) t′ b′
 
-  abbrev Formatted : Result Effect → looks.Outcome Done → Type 0
-  Formatted y (looks.outcome a t′ b′) = Stores y r t b (formatRegs a) t′ b′
+  abbrev Put : Disk → Result Effect
+  Put new = puts silent xs new (formatReply c1 (z .size))
 
-  laid-formatted : (new : Result Disk) → Formatted (after new Reply7) (looks.laid t b new)
-  unfolding regsOf regsAll regsResponded
-  laid-formatted (refused why) = (refl, (refl, refl))
-  laid-formatted (good y) = (refl, (refl, refl))
+  laid-new : (new : Result Disk) → Laid (after new Put) (looks.laid t b new)
+  unfolding regsOf regsResponded
+  laid-new (refused why) = (refl, (refl, refl))
+  laid-new (good y) = (refl, (refl, refl))
 
-  disk-formatted : (disk : Result Disk) (F : Disk → Result Disk) → Formatted (after disk (λ y. after (F y) Reply7)) (looks.laid t b (after disk F))
-  disk-formatted (refused why) F = unfold regsOf in (refl, (refl, refl))
-  disk-formatted (good y) F = laid-formatted (F y)
+  laid-disk : (disk : Result Disk) (F : Disk → Result Disk) → Laid (after disk (λ y. after (F y) Put)) (looks.laid t b (after disk F))
+  laid-disk (refused why) F = unfold regsOf in (refl, (refl, refl))
+  laid-disk (good y) F = laid-new (F y)
 
-  module _ (x : List ℕ) where
-    abbrev FormatAs : Named → Result Effect
-    FormatAs = formatTrack (roomsOf b x) command
+  laid-ran : (cylinder : ℕ) (ids : List SectorId) (a a′ : Done) (t′ b′ : List ℕ) → a ≡ a′
+      → looks.outcome a t′ b′ ≡ calls.setOf (headOf c1) cylinder (trackAs c1 cylinder z ids) t b
+      → (x : List ℕ) → Stores (after (diskOf t b) (λ y. laysTrack (roomsOf b x) xs c1 cylinder z ids y)) r t b (laidRegs a′) t′ b′
+  unfolding laysTrack calls.setOf
+  laid-ran cylinder ids a a′ t′ b′ f w x =
+      let F : Disk → Result Disk = λ y. looks.fitting (roomOf b) (setTrack (headOf c1) cylinder (trackAs c1 cylinder z ids) y) in
+      subst (λ (y : Done). Stores (after (diskOf t b) (λ y. after (F y) Put)) r t b (laidRegs y) t′ b′) f
+      (subst (Laid (after (diskOf t b) (λ y. after (F y) Put))) (sym w) (laid-disk (diskOf t b) F))
+
+-- the track whose IDs were numbered is the one that the command asks for
+pub track-numbered : (command : List ℕ) (cylinder h : ℕ) (ids t b : List ℕ) (z : Shape) → h ≡ headOf (byte command 1) → z ≡ shapeOf command
+    → idsAt ids 0 (byte command 3) ≡ idsFrom cylinder h (byte command 2) 1 (byte command 3)
+    → calls.setOf (headOf (byte command 1)) cylinder (trackAs (byte command 1) cylinder z (idsAt ids 0 (z .sectors))) t b
+    ≡ calls.setOf (headOf (byte command 1)) cylinder (trackAs (byte command 1) cylinder (shapeOf command) (numberedFor command cylinder)) t b
+track-numbered command cylinder h ids t b z p g q =
+    let laid : Shape → List SectorId → looks.Outcome Done = λ y l. calls.setOf (headOf (byte command 1)) cylinder (trackAs (byte command 1) cylinder y l) t b in
+    ap (λ (y : Shape). laid y (idsAt ids 0 (y .sectors))) g
+    ∙ ap (laid (shapeOf command)) (q ∙ ap (λ (k : ℕ). idsFrom cylinder k (byte command 2) 1 (byte command 3)) p)
+
+-- whether the drive that is named has a disk in
+named-ready : (r : Regs) (c1 : ℕ) (t b : List ℕ) → driveNamed c1 r .disk ≡ ready (namedIn c1 r t b .slot)
+named-ready r c1 t b = ready-flag (driveNamed c1 r .disk) (diskOf t b) ∙ ap (λ (n : Named). ready (n .slot)) (sym (drive-shown r c1 t b))
+
+module _ (r : Regs) (command t b : List ℕ) where
+  module _ (d : Drive) (e : d ≡ driveNamed (byte command 1) r) (x : List ℕ) where
+    abbrev AtOnce : Named → Result Effect
+    AtOnce = formatAtOnce (roomsOf b x) command
 
     pub format-none : d .disk ≡ false
         → let n : SectorId = record { c = d .cylinder; h = headOf (byte command 1); r = 0; n = byte command 2 } in
-        Stores (formatHere command r t b x) r t b (accepted silent (replied (notReady (byte command 1) n) r)) t b
-    unfolding formatTrack regsOf regsAll regsResponded
+        Stores (atOnceHere command r t b x) r t b (accepted silent (replied (notReady (byte command 1) n) r)) t b
+    unfolding formatAtOnce regsOf regsAll regsResponded
     format-none q =
         let n : SectorId = record { c = d .cylinder; h = headOf (byte command 1); r = 0; n = byte command 2 } in
         subst (λ (y : Result Effect). Stores y r t b (accepted silent (replied (notReady (byte command 1) n) r)) t b)
-        (with-none r (byte command 1) t b d e FormatAs q) (refl, (refl, refl))
+        (with-none r (byte command 1) t b d e AtOnce q) (refl, (refl, refl))
 
     pub format-ran : (a a′ : Done) (t′ b′ : List ℕ) → d .disk ≡ true → a ≡ a′
-        → looks.outcome a t′ b′ ≡ calls.setOf (headOf (byte command 1)) (d .cylinder) (formatOf command (d .cylinder)) t b
-        → Stores (formatHere command r t b x) r t b (formatRegs a′) t′ b′
-    unfolding formatTrack calls.setOf
+        → looks.outcome a t′ b′ ≡ calls.setOf (headOf (byte command 1)) (d .cylinder) (trackAs (byte command 1) (d .cylinder) (shapeOf command) (numberedFor command (d .cylinder))) t b
+        → Stores (atOnceHere command r t b x) r t b (laidRegs r [] (byte command 1) (shapeOf command) t b a′) t′ b′
+    unfolding formatAtOnce
     format-ran a a′ t′ b′ q f w =
-        subst (λ (y : Result Effect). Stores y r t b (formatRegs a′) t′ b′) (with-disk r (byte command 1) t b d e FormatAs q)
-        (subst (λ (y : Done). Stores (FormatAs (namedAs (fitted (byte command 1)) d (Holds (diskOf t b)))) r t b (formatRegs y) t′ b′) f
-        (subst (Formatted (FormatAs (namedAs (fitted (byte command 1)) d (Holds (diskOf t b))))) (sym w)
-        (disk-formatted (diskOf t b) (λ y. looks.fitting (roomOf b) (setTrack (headOf (byte command 1)) (d .cylinder) (formatOf command (d .cylinder)) y)))))
+        subst (λ (y : Result Effect). Stores y r t b (laidRegs r [] (byte command 1) (shapeOf command) t b a′) t′ b′) (with-disk r (byte command 1) t b d e AtOnce q)
+        (laid-ran r [] (byte command 1) (shapeOf command) t b (d .cylinder) (numberedFor command (d .cylinder)) a a′ t′ b′ f w x)
+
+  -- by whether there is an execution phase
+  format-by : (v : Bool) → v ≡ hasPhase (r .setting .machine) (byte command 3) (driveNamed (byte command 1) r .disk)
+      → (x : List ℕ) → formatIf v (roomsOf b x) command (namedIn (byte command 1) r t b) ≡ formatHere command r t b x
+  unfolding formatTrack
+  format-by v e x =
+      ap (λ (f : Bool). formatIf f (roomsOf b x) command (namedIn (byte command 1) r t b))
+      (e ∙ ap (hasPhase (r .setting .machine) (byte command 3)) (named-ready r (byte command 1) t b))
+
+  pub format-phase : (v : Bool) → v ≡ hasPhase (r .setting .machine) (byte command 3) (driveNamed (byte command 1) r .disk) → v ≡ true
+      → (x : List ℕ) → Stores (formatHere command r t b x) r t b (accepted silent (regsChanged (Start (byte command 1) (IntoTrack (shapeOf command))) r)) t b
+  unfolding regsOf regsAll regsResponded
+  format-phase v e q x =
+      subst (λ (y : Result Effect). Stores y r t b (accepted silent (regsChanged (Start (byte command 1) (IntoTrack (shapeOf command))) r)) t b)
+      (format-by true (sym q ∙ e) x) (refl, (refl, refl))
+
+  pub format-whole : (v : Bool) → v ≡ hasPhase (r .setting .machine) (byte command 3) (driveNamed (byte command 1) r .disk) → v ≡ false
+      → (a : Written) (t′ b′ x : List ℕ) → Stores (atOnceHere command r t b x) r t b a t′ b′ → Stores (formatHere command r t b x) r t b a t′ b′
+  format-whole v e q a t′ b′ x h = subst (λ (y : Result Effect). Stores y r t b a t′ b′) (format-by false (sym q ∙ e) x) h
+
+-- the end of an execution phase
+module _ (r : Regs) (t b ids : List ℕ) (d : Drive) (e : d ≡ driveNamed (r .write .c1) r) (x : List ℕ) where
+  abbrev TrackAs : Named → Result Effect
+  TrackAs = writtenInto (IntoTrack (r .write .shape)) (roomsOf b x) (r .write .c1) ids
+
+  pub track-none : d .disk ≡ false
+      → Stores (intoHere (IntoTrack (r .write .shape)) ids r t b x) r t b (laidRegs r (Finish ∷ []) (r .write .c1) (r .write .shape) t b done.Good) t b
+  unfolding writtenInto writtenTrack regsOf regsResponded
+  track-none q =
+      subst (λ (y : Result Effect). Stores y r t b (laidRegs r (Finish ∷ []) (r .write .c1) (r .write .shape) t b done.Good) t b)
+      (with-none r (r .write .c1) t b d e TrackAs q) (refl, (refl, refl))
+
+  pub track-ran : (a a′ : Done) (t′ b′ : List ℕ) → d .disk ≡ true → a ≡ a′
+      → looks.outcome a t′ b′ ≡ calls.setOf (headOf (r .write .c1)) (d .cylinder) (trackAs (r .write .c1) (d .cylinder) (r .write .shape) (idsAt ids 0 (r .write .shape .sectors))) t b
+      → Stores (intoHere (IntoTrack (r .write .shape)) ids r t b x) r t b (laidRegs r (Finish ∷ []) (r .write .c1) (r .write .shape) t b a′) t′ b′
+  unfolding writtenInto writtenTrack
+  track-ran a a′ t′ b′ q f w =
+      subst (λ (y : Result Effect). Stores y r t b (laidRegs r (Finish ∷ []) (r .write .c1) (r .write .shape) t b a′) t′ b′) (with-disk r (r .write .c1) t b d e TrackAs q)
+      (laid-ran r (Finish ∷ []) (r .write .c1) (r .write .shape) t b (d .cylinder) (idsAt ids 0 (r .write .shape .sectors)) a a′ t′ b′ f w x)
 
 -- ---- The end of a write
 
 module _ (r : Regs) (t b held : List ℕ) (few : length held ≤ mostHeld) (d : Drive) (e : d ≡ driveNamed (r .write .c1) r) where
   abbrev pub Told : Report → Written
-  Told x = accepted x (replied (writeReply (writingOf (r .write) held)) (regsChanged Finish r))
+  Told x = accepted x (replied (writeReply (r .write .c1) (r .write .id)) (regsChanged Finish r))
 
   -- by what `save` answers
   abbrev pub saveRegs : Saved → Written
@@ -303,7 +357,7 @@ module _ (r : Regs) (t b held : List ℕ) (few : length held ≤ mostHeld) (d : 
   Saving y (looks.outcome a t′ b′) = Stores y r t b (saveRegs a) t′ b′
 
   put-saved : (v : Bool) (m : Match) (y : Disk)
-      → Saving (need v NoRoom (puts (serves m) (Finish ∷ []) y (writeReply (writingOf (r .write) held))))
+      → Saving (need v NoRoom (puts (serves m) (Finish ∷ []) y (writeReply (r .write .c1) (r .write .id))))
       (looks.laidAs saving.Refused (saving.Good m) t b (need true NoRoom (need v NoRoom (good y))))
   unfolding regsOf regsAll regsResponded
   put-saved true m y = (refl, (refl, refl))
@@ -311,10 +365,10 @@ module _ (r : Regs) (t b held : List ℕ) (few : length held ≤ mostHeld) (d : 
 
   module _ (x : List ℕ) where
     abbrev WrittenAs : Named → Result Effect
-    WrittenAs = written (roomsOf b x) (writingOf (r .write) held)
+    WrittenAs = writtenInto (IntoSector (r .write .id)) (roomsOf b x) (r .write .c1) held
 
     at-saved : (m : Match) (y : Disk) (s : Found Sector)
-        → Saving (saveAt (roomsOf b x) (writingOf (r .write) held) m y s) (calls.saveFound t b (length held) m y s)
+        → Saving (saveAt (roomsOf b x) (r .write .c1) (r .write .id) m y s) (calls.saveFound t b (length held) m y s)
     unfolding saveAt
     at-saved m y nothing = unfold regsOf regsAll regsResponded in (refl, (refl, refl))
     at-saved m y (found k s) =
@@ -323,19 +377,19 @@ module _ (r : Regs) (t b held : List ℕ) (few : length held ≤ mostHeld) (d : 
 
     disk-saved : (f : Bool) (disk : Result Disk)
         → Saving (WrittenAs (namedAs f d (Holds disk))) (calls.saveIn t b (headOf (r .write .c1)) (d .cylinder) (r .write .id) held disk)
-    unfolding written
+    unfolding writtenInto writtenSector
     disk-saved f (refused why) = unfold regsOf in (refl, (refl, refl))
     disk-saved f (good y) =
         at-saved (matchAt y (headOf (r .write .c1)) (d .cylinder) (r .write .id))
         (saved (headOf (r .write .c1)) (d .cylinder) (r .write .id) held y) (sectorAt y (headOf (r .write .c1)) (d .cylinder) (r .write .id))
 
-    pub finish-none : d .disk ≡ false → Stores (writtenHere held r t b x) r t b (Told silent) t b
-    unfolding written regsOf regsAll regsResponded
+    pub finish-none : d .disk ≡ false → Stores (intoHere (IntoSector (r .write .id)) held r t b x) r t b (Told silent) t b
+    unfolding writtenInto writtenSector regsOf regsAll regsResponded
     finish-none q = subst (λ (y : Result Effect). Stores y r t b (Told silent) t b) (with-none r (r .write .c1) t b d e WrittenAs q) (refl, (refl, refl))
 
     pub finish-ran : (h : ℕ) → h ≡ headOf (r .write .c1) → (a a′ : Saved) (t′ b′ : List ℕ) → d .disk ≡ true → a ≡ a′
         → looks.outcome a t′ b′ ≡ calls.saveOf t b h (d .cylinder) (r .write .id) held
-        → Stores (writtenHere held r t b x) r t b (saveRegs a′) t′ b′
+        → Stores (intoHere (IntoSector (r .write .id)) held r t b x) r t b (saveRegs a′) t′ b′
     unfolding calls.saveOf
     finish-ran h p a a′ t′ b′ q f w =
         let z : looks.outcome a′ t′ b′ ≡ calls.saveIn t b (headOf (r .write .c1)) (d .cylinder) (r .write .id) held (diskOf t b) =

@@ -19,9 +19,15 @@ use Rattle.disk.specs.Change.{setTrack}
 use Rattle.codes.specs.declared.command.Command.{Command}
 use Rattle.registers.specs.declared.regs.Regs.{Regs}
 use Rattle.registers.specs.declared.regs.Written.{Written}
-use Rattle.registers.specs.Boxes.{Rooms, Slot, Empty, Holds, Writing, Named, seven, silent, Response, Stay, Reply, ReplyIfNone, Seeking, Interrupt, Serve, Effect}
-use Rattle.codes.specs.Second.{u, headOf}
-use Rattle.commands.specs.Commands.{byte, whenReady, puts, formatOf, seekIf, servedAs, readData, startAt, writeData, saveAt, written, idGiven, readId, formatTrack}
+use Rattle.registers.specs.declared.regs.Machine.{Machine}
+use Rattle.registers.specs.declared.regs.Machine.the-variants.{Rust, DataSheet}
+use Rattle.registers.specs.declared.regs.Setting.{Setting}
+use Rattle.registers.specs.declared.regs.Shape.{Shape}
+use Rattle.registers.specs.Boxes.{Rooms, Slot, Empty, Holds, Goal, IntoSector, IntoTrack, Named, silent, Change, Effect}
+use Rattle.registers.specs.Boxes.{Response, Stay, Reply, ReplyIfNone, Seeking, Interrupt, Serve}
+use Rattle.codes.specs.Second.{headOf}
+use Rattle.commands.specs.Commands.{byte, ready, whenReady, does, puts, seekIf, invalid, servedAs, readData, startAt, writeData, saveAt, writtenSector, idGiven, readId}
+use Rattle.commands.specs.Commands.{trackAs, formatReply, laysTrack, formatAtOnce, hasPhase, formatIf, formatTrack, writtenTrack, writtenInto}
 use Rattle.registers.specs.Settle.{regsOf}
 use Rattle.commands.specs.Lent.{transferWith, tableAfter, dataAfter, transferAfter, Fills, Stores, Ran, ran, ranOf, ranHere}
 
@@ -38,7 +44,7 @@ StillS Stay = Unit {0}
 StillS (Reply x) = Unit {0}
 StillS (ReplyIfNone x) = Unit {0}
 StillS Seeking = Unit {0}
-StillS (Interrupt c) = Unit {0}
+StillS (Interrupt c y) = Unit {0}
 StillS (Serve y x) = ⊥
 
 abbrev pub Still : Result Effect → Type 0
@@ -54,7 +60,7 @@ still-response Stay x q = refl
 still-response (Reply y) x q = refl
 still-response (ReplyIfNone y) x q = refl
 still-response Seeking x q = refl
-still-response (Interrupt c) x q = refl
+still-response (Interrupt c y) x q = refl
 still-response (Serve y z) x q = absurd q
 
 pub still-stays : (e : Result Effect) (x : List ℕ) → Still e → x ≡ transferAfter e x
@@ -68,7 +74,7 @@ when-ready P r Empty e f p q = p
 when-ready P r (Holds (refused why)) e f p q = r why
 when-ready P r (Holds (good d)) e f p q = q d
 
--- Seek, Read ID and the start of a write leave both alone, Read Data the store, Format and the end of a write the transfer buffer
+-- Seek, an invalid byte, Read ID and the start of a write leave both alone, Read Data the store, Format and the end of a write the transfer buffer
 abbrev pub Quiet : Result Effect → Type 0
 Quiet e = Unput e × Still e
 
@@ -76,6 +82,10 @@ pub quiet-seek : (f : Bool) (c : ℕ) → Quiet (seekIf f c)
 unfolding seekIf
 quiet-seek true c = (refl, tt)
 quiet-seek false c = (refl, tt)
+
+pub quiet-invalid : (m : Machine) → Quiet (does [] (invalid m))
+quiet-invalid Rust = (refl, tt)
+quiet-invalid DataSheet = (refl, tt)
 
 pub quiet-id : (c1 index : ℕ) (d : Named) → Quiet (readId c1 index d)
 unfolding readId idGiven
@@ -105,25 +115,33 @@ unput-read s deleted command d = when-ready Unput (λ why. tt) (d .slot) _ _ ref
     served m [] = refl
     served m (x ∷ xs) = needed (leb (length (contents (x ∷ xs))) (s .transfer)) _ _ refl
 
-pub still-format : (s : Rooms) (command : List ℕ) (d : Named) → Still (formatTrack s command d)
-unfolding formatTrack
-still-format s command d =
-    when-ready Still (λ why. tt) (d .slot) _ _ tt
-    (λ x. put (fitting (s .room) (setTrack (headOf (byte command 1)) (d .cylinder) (formatOf command (d .cylinder)) x)))
+-- a track that is laid
+still-lays : (s : Rooms) (xs : List Change) (c1 cylinder : ℕ) (x : Shape) (ids : List SectorId) (d : Disk) → Still (laysTrack s xs c1 cylinder x ids d)
+unfolding laysTrack
+still-lays s xs c1 cylinder x ids d = put (fitting (s .room) (setTrack (headOf c1) cylinder (trackAs c1 cylinder x ids) d))
   where
-    put : (new : Result Disk) → Still (after new (λ x. puts silent [] x (seven (u (byte command 1)) 0 0 (record { c = 0; h = 0; r = 0; n = byte command 2 }))))
+    put : (new : Result Disk) → Still (after new (λ y. puts silent xs y (formatReply c1 (x .size))))
     put (refused why) = tt
-    put (good x) = tt
+    put (good y) = tt
 
-pub still-written : (s : Rooms) (w : Writing) (d : Named) → Still (written s w d)
-unfolding written saveAt
-still-written s w d = when-ready Still (λ why. tt) (d .slot) _ _ tt (λ x. by _ _ (sectorAt x (headOf (w .c1)) (d .cylinder) (w .id)))
+pub still-format : (m : Setting) (s : Rooms) (command : List ℕ) (d : Named) → Still (formatTrack m s command d)
+unfolding formatTrack formatAtOnce
+still-format m s command d = go (hasPhase (m .machine) (byte command 3) (ready (d .slot)))
+  where
+    go : (v : Bool) → Still (formatIf v s command d)
+    go true = tt
+    go false = when-ready Still (λ why. tt) (d .slot) _ _ tt (λ x. still-lays s [] _ (d .cylinder) _ _ x)
+
+pub still-written : (g : Goal) (s : Rooms) (c1 : ℕ) (held : List ℕ) (d : Named) → Still (writtenInto g s c1 held d)
+unfolding writtenInto writtenSector writtenTrack saveAt
+still-written (IntoTrack x) s c1 held d = when-ready Still (λ why. tt) (d .slot) _ _ tt (λ y. still-lays s _ c1 (d .cylinder) x _ y)
+still-written (IntoSector id) s c1 held d = when-ready Still (λ why. tt) (d .slot) _ _ tt (λ x. by _ _ (sectorAt x (headOf c1) (d .cylinder) id))
   where
     needed : (v : Bool) (why : Refusal) (e : Result Effect) → Still e → Still (need v why e)
     needed true why e q = q
     needed false why e q = tt
 
-    by : (m : Match) (new : Disk) (x : Found Sector) → Still (saveAt s w m new x)
+    by : (m : Match) (new : Disk) (x : Found Sector) → Still (saveAt s c1 id m new x)
     by m new nothing = tt
     by m new (found k x) = needed (leb (byteCount new) (s .room)) _ _ tt
 

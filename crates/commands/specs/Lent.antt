@@ -12,10 +12,10 @@ use Rattle.codes.specs.declared.command.Command.{Command}
 use Rattle.registers.specs.declared.regs.Regs.{Regs}
 use Rattle.registers.specs.declared.regs.Report.{Report}
 use Rattle.registers.specs.declared.regs.Written.{Written}
-use Rattle.registers.specs.Boxes.{Response, Stay, Reply, ReplyIfNone, Seeking, Interrupt, Serve, Effect, Sent, World}
+use Rattle.registers.specs.Boxes.{Goal, Response, Stay, Reply, ReplyIfNone, Seeking, Interrupt, Serve, Effect, Sent, World}
 use Rattle.registers.specs.View.{roomsOf, writingOf, drivesOf, namedIn, worldOf}
 use Rattle.registers.specs.Settle.{declined, regsTaken, heldTaken, regsOf}
-use Rattle.commands.specs.Commands.{byte, readData, formatTrack, written, obeyed}
+use Rattle.commands.specs.Commands.{byte, readData, formatAtOnce, formatTrack, writtenInto, written, obeyed}
 use Rattle.registers.specs.declared.regs.Receipt.the-variants as receipt
 
 -- a disk that is put is laid over what was there
@@ -33,7 +33,7 @@ transferWith Stay x = x
 transferWith (Reply reply) x = x
 transferWith (ReplyIfNone reply) x = x
 transferWith Seeking x = x
-transferWith (Interrupt c) x = x
+transferWith (Interrupt c y) x = x
 transferWith (Serve bytes reply) x = over x 0 bytes
 
 abbrev pub tableAfter : Result Effect → List ℕ → List ℕ
@@ -67,14 +67,20 @@ ranOf e r t b x = ran (regsOf e r) (tableAfter e t) (dataAfter e b) (transferAft
 abbrev pub readHere : Bool → List ℕ → Regs → List ℕ → List ℕ → List ℕ → Result Effect
 readHere deleted command r t b x = readData (roomsOf b x) deleted command (namedIn (byte command 1) r t b)
 
+abbrev pub atOnceHere : List ℕ → Regs → List ℕ → List ℕ → List ℕ → Result Effect
+atOnceHere command r t b x = formatAtOnce (roomsOf b x) command (namedIn (byte command 1) r t b)
+
 abbrev pub formatHere : List ℕ → Regs → List ℕ → List ℕ → List ℕ → Result Effect
-formatHere command r t b x = formatTrack (roomsOf b x) command (namedIn (byte command 1) r t b)
+formatHere command r t b x = formatTrack (r .setting) (roomsOf b x) command (namedIn (byte command 1) r t b)
+
+abbrev pub intoHere : Goal → List ℕ → Regs → List ℕ → List ℕ → List ℕ → Result Effect
+intoHere g held r t b x = writtenInto g (roomsOf b x) (r .write .c1) held (namedIn (r .write .c1) r t b)
 
 abbrev pub writtenHere : List ℕ → Regs → List ℕ → List ℕ → List ℕ → Result Effect
 writtenHere held r t b x = written (roomsOf b x) (writingOf (r .write) held) (namedIn (r .write .c1) r t b)
 
 abbrev pub ranHere : Command → List ℕ → Regs → List ℕ → List ℕ → List ℕ → Ran
-ranHere which command r t b x = ranOf (obeyed (roomsOf b x) which command (drivesOf r t b) (r .index)) r t b x
+ranHere which command r t b x = ranOf (obeyed (r .setting) (roomsOf b x) which command (drivesOf r t b) (r .index)) r t b x
 
 -- ---- What a byte leaves: the same, and the held bytes
 

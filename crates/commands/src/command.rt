@@ -12,6 +12,7 @@ use fields::St2;
 use formatting::Format;
 use registers::Regs;
 use registers::Seek;
+use registers::Shape;
 use registers::Written;
 use registers::fitted;
 use store::Done;
@@ -25,11 +26,13 @@ ghost use Rattle.fields.specs.Capacities.{mostTransfer};
 ghost use Rattle.store.specs.Calls.{outcome};
 ghost use Rattle.disk.specs.Calls.{setOf};
 ghost use Rattle.codes.specs.Second.{headOf};
-ghost use Rattle.registers.specs.Boxes.{fitted, Interrupt, ReplyIfNone};
+ghost use Rattle.tracks.specs.Rows.{idsAt};
+ghost use Rattle.registers.specs.Boxes.{IntoTrack, fitted, Interrupt, ReplyIfNone};
 ghost use Rattle.registers.specs.View.{namedIn};
 ghost use Rattle.registers.specs.Settle.{driveNamed, replied, regsWithUnread, regsResponded, regsOf};
-ghost use Rattle.commands.specs.Commands.{idOf, noId, missing, notReady, notReadyId, senseIf, seekIf, markOf, readReply, writeData, readId, formatOf};
-ghost use Rattle.commands.specs.Lent.{Fills, Stores, ran, readHere, formatHere, ranHere};
+ghost use Rattle.commands.specs.Commands.{idOf, noId, missing, notReady, notReadyId, senseIf, seekIf, noSeek, invalid, markOf, readReply, writeData};
+ghost use Rattle.commands.specs.Commands.{readId, shapeOf, trackAs, numberedFor, formatReply, hasPhase};
+ghost use Rattle.commands.specs.Lent.{Fills, Stores, ran, readHere, atOnceHere, formatHere, intoHere, ranHere};
 
 // The sector that bytes 2 to 5 of a command name.
 fn sector_id(command: [u8; 9]) -> SectorId
@@ -107,17 +110,39 @@ fn seek(regs: Regs, c1: u8, cylinder: u8) -> Written
     regs.moved(cylinder, Seek::Running).reply0().done()
 }
 
+// Sense Interrupt with no seek to tell of.
+fn no_seek(regs: Regs, c: u8) -> Regs
+    ensures { λ r. ⌜ r ≡ replied (noSeek (regs .setting .machine) c) regs ⌝ }
+{
+    let setting = regs.setting;
+    if setting.is_rust() {
+        return regs.reply2(St0::UNKNOWN, c);
+    }
+    regs.reply1(St0::UNKNOWN)
+}
+
 fn sense_interrupt(regs: Regs) -> Regs
-    ensures { λ r. ⌜ r ≡ regsResponded (Interrupt (regs .drive .cylinder)) regs ⌝ }
+    ensures { λ r. ⌜ r ≡ regsResponded (Interrupt (regs .drive .cylinder) (noSeek (regs .setting .machine) (regs .drive .cylinder))) regs ⌝ }
 {
     let d = regs.drive;
     let c = d.cylinder;
     let s = d.seek;
     match s {
-        Seek::Idle => regs.reply2(St0::UNKNOWN, c),
+        Seek::Idle => no_seek(regs, c),
         Seek::Running => regs.moved(c, Seek::Done).reply2(St0::SEEK_END, c),
-        Seek::Done => regs.reply2(St0::UNKNOWN, c),
+        Seek::Done => no_seek(regs, c),
     }
+}
+
+// A first byte that is no command's.
+fn invalid(regs: Regs) -> Regs
+    ensures { λ r. ⌜ r ≡ regsResponded (invalid (regs .setting .machine)) regs ⌝ }
+{
+    let setting = regs.setting;
+    if setting.is_rust() {
+        return regs;
+    }
+    regs.reply1(St0::UNKNOWN)
 }
 
 // Read ID, not ready: a reply only if no reply byte is unread.
@@ -219,30 +244,70 @@ fn read_data(
     }
 }
 
-// The store with the track that a Format asks for.
-fn lay_track(command: [u8; 9], cylinder: u8, table: &mut [u8], bytes: &mut [u8]) -> Done
-    ensures { λ r. ⌜ outcome r (now (table .exit)) (now (bytes .exit))
-        ≡ setOf (headOf (getD command 1 0)) cylinder (formatOf command cylinder) (now (table .entry)) (now (bytes .entry)) ⌝ }
+// The shape that a Format asks for.
+fn shape_of(command: [u8; 9]) -> Shape
+    ensures { λ r. ⌜ r ≡ shapeOf command ⌝ }
 {
-    let head = head_of(command[1]);
-    let n = command[2];
-    let sectors = command[3];
-    let mut space = [0u8; tracks::IDS];
-    let ids: &mut [u8] = &mut space;
-    tracks::number_ids(ids, cylinder, head, n, sectors);
-    let format = Format {
-        cylinder,
-        side: head,
-        size: n,
-        sectors,
+    Shape {
+        size: command[2],
+        sectors: command[3],
         gap: command[4],
         filler: command[5],
+    }
+}
+
+// The store with a track of a shape, where the head is. Its IDs are lent, four bytes each.
+fn lay_track(
+    c1: u8,
+    cylinder: u8,
+    shape: Shape,
+    ids: &[u8],
+    table: &mut [u8],
+    bytes: &mut [u8],
+) -> Done
+    ensures { λ r. ⌜ outcome r (now (table .exit)) (now (bytes .exit))
+        ≡ setOf (headOf c1) cylinder (trackAs c1 cylinder shape (idsAt (now (ids .entry)) 0 (shape .sectors))) (now (table .entry)) (now (bytes .entry)) ⌝ }
+{
+    let format = Format {
+        cylinder,
+        side: head_of(c1),
+        size: shape.size,
+        sectors: shape.sectors,
+        gap: shape.gap,
+        filler: shape.filler,
     };
     formatting::set_track(table, bytes, format, ids)
 }
 
-fn format_track(regs: Regs, command: [u8; 9], table: &mut [u8], bytes: &mut [u8]) -> Written
-    ensures { λ r. ⌜ ((x : List ℕ) → Stores (formatHere command regs (now (table .entry)) (now (bytes .entry)) x)
+// The same with numbered IDs, as the Rust has them.
+fn lay_numbered(command: [u8; 9], cylinder: u8, table: &mut [u8], bytes: &mut [u8]) -> Done
+    ensures { λ r. ⌜ outcome r (now (table .exit)) (now (bytes .exit))
+        ≡ setOf (headOf (getD command 1 0)) cylinder (trackAs (getD command 1 0) cylinder (shapeOf command) (numberedFor command cylinder))
+        (now (table .entry)) (now (bytes .entry)) ⌝ }
+{
+    let c1 = command[1];
+    let mut space = [0u8; tracks::IDS];
+    let ids: &mut [u8] = &mut space;
+    tracks::number_ids(ids, cylinder, head_of(c1), command[2], command[3]);
+    lay_track(c1, cylinder, shape_of(command), ids, table, bytes)
+}
+
+// The reply to a Format, whether its track was laid or the disk was out.
+fn format_reply(regs: Regs, c1: u8, n: u8) -> Regs
+    ensures { λ r. ⌜ r ≡ replied (formatReply c1 n) regs ⌝ }
+{
+    let id = SectorId {
+        c: 0,
+        h: 0,
+        r: 0,
+        n,
+    };
+    regs.reply7(St0::from_c1(c1), 0, 0, id)
+}
+
+// A Format that takes no ID bytes.
+fn format_at_once(regs: Regs, command: [u8; 9], table: &mut [u8], bytes: &mut [u8]) -> Written
+    ensures { λ r. ⌜ ((x : List ℕ) → Stores (atOnceHere command regs (now (table .entry)) (now (bytes .entry)) x)
         regs (now (table .entry)) (now (bytes .entry)) r (now (table .exit)) (now (bytes .exit))) ⌝ }
 {
     let c1 = command[1];
@@ -258,17 +323,53 @@ fn format_track(regs: Regs, command: [u8; 9], table: &mut [u8], bytes: &mut [u8]
         };
         return not_ready(regs, c1, id).done();
     }
-    match lay_track(command, cylinder, table, bytes) {
+    match lay_numbered(command, cylinder, table, bytes) {
         Done::Refused(why) => regs.refused(why),
-        Done::Good => {
-            let id = SectorId {
-                c: 0,
-                h: 0,
-                r: 0,
-                n,
-            };
-            regs.reply7(St0::from_c1(c1), 0, 0, id).done()
-        }
+        Done::Good => format_reply(regs, c1, n).done(),
+    }
+}
+
+// Whether a Format has an execution phase: in the data-sheet machine, with a disk in the drive, for one sector or more.
+fn has_phase(regs: Regs, c1: u8, count: u8) -> bool
+    ensures { λ r. ⌜ r ≡ hasPhase (regs .setting .machine) count (driveNamed c1 regs .disk) ⌝ }
+{
+    let setting = regs.setting;
+    if setting.is_rust() {
+        return false;
+    }
+    let d = regs.named(c1);
+    if !d.disk {
+        return false;
+    }
+    count != 0
+}
+
+fn format_track(regs: Regs, command: [u8; 9], table: &mut [u8], bytes: &mut [u8]) -> Written
+    ensures { λ r. ⌜ ((x : List ℕ) → Stores (formatHere command regs (now (table .entry)) (now (bytes .entry)) x)
+        regs (now (table .entry)) (now (bytes .entry)) r (now (table .exit)) (now (bytes .exit))) ⌝ }
+{
+    if has_phase(regs, command[1], command[3]) {
+        return regs.awaiting(command[1], shape_of(command)).done();
+    }
+    format_at_once(regs, command, table, bytes)
+}
+
+// The last ID byte of a Format is held: the reply, and the track in the store.
+pub fn finish_format(regs: Regs, ids: &[u8], table: &mut [u8], bytes: &mut [u8]) -> Written
+    ensures { λ r. ⌜ ((x : List ℕ) → Stores (intoHere (IntoTrack (regs .write .shape)) (now (ids .entry)) regs (now (table .entry)) (now (bytes .entry)) x)
+        regs (now (table .entry)) (now (bytes .entry)) r (now (table .exit)) (now (bytes .exit))) ⌝ }
+{
+    let p = regs.write;
+    let c1 = p.c1;
+    let shape = p.shape;
+    let d = regs.named(c1);
+    let r = format_reply(regs.finished(), c1, shape.size);
+    if !d.disk {
+        return r.done();
+    }
+    match lay_track(c1, d.cylinder, shape, ids, table, bytes) {
+        Done::Refused(why) => regs.refused(why),
+        Done::Good => r.done(),
     }
 }
 
@@ -297,6 +398,6 @@ pub fn run_cmd(
         Command::ReadId => read_id(regs, command[1], table, bytes),
         Command::FormatTrack => format_track(regs, command, table, bytes),
         Command::Unserved => regs.done(),
-        Command::Invalid => regs.done(),
+        Command::Invalid => invalid(regs).done(),
     }
 }

@@ -1,6 +1,6 @@
 -- A controller whose numbers are possible keeps possible ones: one case for each thing that a call can do to its registers.
 use mathlib.Core.Path.{_≡_, refl, sym, subst, _∙_}
-use Prim.Native.Nat.{ℕ, zero, suc, _+_, _-_, _≤_, _<_}
+use Prim.Native.Nat.{ℕ, zero, suc, _+_, _-_, _%_, _≤_, _<_}
 use native.Mathlib.Omega.{arith}
 use native.Mathlib.Nat.{mod-lt}
 use mathlib.Core.Bool.{Bool, true, false}
@@ -8,23 +8,23 @@ use mathlib.Core.List.{List, [], _∷_, _++_}
 use lib.ListN.{length, getD, set, replicate, length-append, length-replicate, length-set}
 use lib.Dec.{eqb, ltb}
 use borrow.Author.Tests.{ltb-true, eqb-false, le-ltb, lt-leb}
-use Rattle.fields.specs.Model.{sizeOf}
-use Rattle.fields.proofs.Sizes.{size-pos, size-most}
 use Rattle.fields.proofs.Tests.{never}
 use Rattle.store.specs.Store.{transferRoom}
 use Rattle.codes.specs.Table.{commandOf, bytesFor}
 use Rattle.codes.proofs.Rows.{bytes-range}
 use Rattle.registers.specs.declared.regs.Regs.{Regs}
 use Rattle.registers.specs.declared.regs.Pending.{Pending}
+use Rattle.registers.specs.declared.regs.Setting.{Setting}
 use Rattle.registers.specs.declared.regs.Seek.{Seek}
 use Rattle.registers.specs.declared.regs.Seek.the-variants.{Idle, Running, Done}
-use Rattle.registers.specs.Boxes.{fitted, Add, Hold, Change, Clear, MoveTo, Turn, Start, Finish, Response, Stay, Reply, ReplyIfNone, Seeking, Interrupt, Serve}
+use Rattle.registers.specs.Boxes.{Goal, IntoSector, IntoTrack, wholeOf, Add, Hold, Change, Clear, MoveTo, Turn, Start, Finish}
+use Rattle.registers.specs.Boxes.{Response, Stay, Reply, ReplyIfNone, Seeking, Interrupt, Serve}
 use Rattle.registers.specs.Ports.{settled, Poll, Stays, Counts, Drops, pollBy, sourceBy}
-use Rattle.registers.specs.View.{wrongWrite, impossible, impossibleIn}
-use Rattle.registers.specs.Settle.{regsWithMotor, regsWithDrive, sought, replied, regsTaken, regsChanged, regsAll, ifUnread, interruptedBy, regsResponded}
+use Rattle.registers.specs.View.{goalOf, wrongWork, wrongWrite, impossible, impossibleIn}
+use Rattle.registers.specs.Settle.{regsWithMotor, regsWithDrive, sought, replied, pendingWith, regsTaken, regsChanged, regsAll, ifUnread, interruptedBy, regsResponded}
 use Rattle.registers.specs.Calls.{regsPolled, afterStatusOf, sourceOf, regsRead}
-use Rattle.registers.proofs.Numbers.{possible, possible-in, until-in, fitted-few}
-use Rattle.registers.specs.Possible.{Replying, Unread, Small, Lawful, Fair, AllFair, Short}
+use Rattle.registers.proofs.Numbers.{possible, possible-in, until-in, whole-most, goal-few, work-more, write-right}
+use Rattle.registers.specs.Possible.{Replying, Unread, Small, Lawful, Few, Fair, AllFair, Short}
 
 -- ---- possible numbers, box by box
 
@@ -37,7 +37,7 @@ lawful-so x r w =
     let c = le-ltb (r .until) (r .from) (w .unread .read) in
     rw (le-ltb (r .fill) (r .place) (w .reply .read), c, le-ltb 7 (r .fill) (w .reply .few), a, le-ltb 2 (r .lost) (w .unread .few), w .write, b)
 
-pub so-lawful : (x : List ℕ) (r : Regs) → length (r .command) ≡ 9 → length (r .reply) ≡ 7 → Small (r .index) (r .write .taken) → impossibleIn x r ≡ false
+pub so-lawful : (x : List ℕ) (r : Regs) → length (r .command) ≡ 9 → length (r .reply) ≡ 7 → Small (r .index) (r .write .taken) (r .write .shape .sectors) → impossibleIn x r ≡ false
     → Lawful r (transferRoom x)
 so-lawful x r nine seven small e =
     let p = possible r (possible-in x r e) in
@@ -151,23 +151,36 @@ module _ (r : Regs) (room : ℕ) (w : Lawful r room) where
 
   -- ---- a byte of a write: one that is held, or the last, with which the write is done with
 
-  held-right : (f : Bool) (p : Pending) → p .taken + 1 < sizeOf (p .id .n) → fitted (p .c1) ≡ true → wrongWrite (record { on = f; c1 = p .c1; id = p .id; taken = p .taken + 1 }) ≡ false
-  held-right true p h e = rw (lt-leb (sizeOf (p .id .n)) (p .taken + 1) h, e)
-  held-right false p h e = refl
+  held-right : (f : Bool) (p : Pending) → wrongWork (r .setting) (p .c1) (goalOf p) (p .taken) ≡ false → p .taken + 1 < wholeOf (goalOf p)
+      → wrongWrite (r .setting) (pendingWith f (p .taken + 1) p) ≡ false
+  held-right true p e h = work-more (r .setting) (p .c1) (goalOf p) (p .taken) (p .taken + 1) h e
+  held-right false p e h = refl
 
-  pub kept-held : (b : ℕ) → r .write .on ≡ true → r .write .taken + 1 < sizeOf (r .write .id .n) → Lawful (regsTaken (Hold b) r) room
+  pub kept-held : (b : ℕ) → r .write .on ≡ true → r .write .taken + 1 < wholeOf (goalOf (r .write)) → Lawful (regsTaken (Hold b) r) room
   kept-held b on h =
-      let right = held-right (r .write .on) (r .write) h (fitted-few (r .write) (w .write) on) in
-      let fits : Small (r .index) (r .write .taken + 1) = record { index-fits = w .small .index-fits; taken-fits = omega (arith, h, size-most (r .write .id .n)) } in
+      let right = held-right (r .write .on) (r .write) (write-right (r .setting) (r .write) (w .write) on) h in
+      let most = whole-most (goalOf (r .write)) (goal-few (r .write) (w .small .sectors-fit)) in
+      let fits : Small (r .index) (r .write .taken + 1) (r .write .shape .sectors) =
+      record { index-fits = w .small .index-fits; taken-fits = omega (arith, h, most); sectors-fit = w .small .sectors-fit } in
       record { command = w .command; reply = w .reply; unread = w .unread; write = right; small = fits }
 
   pub kept-ended : (b : ℕ) → Lawful (regsChanged Finish (regsTaken (Hold b) r)) room
-  kept-ended b = record { command = w .command; reply = w .reply; unread = w .unread; write = refl; small = record { index-fits = w .small .index-fits; taken-fits = omega arith } }
+  kept-ended b =
+      let fits : Small (r .index) 0 (r .write .shape .sectors) = record { index-fits = w .small .index-fits; taken-fits = omega arith; sectors-fit = w .small .sectors-fit } in
+      record { command = w .command; reply = w .reply; unread = w .unread; write = refl; small = fits }
 
 -- ---- changes that a command brings
 
 module _ (room : ℕ) where
-  kept-change : (x : Change) (r : Regs) → Fair x → Lawful r room → Lawful (regsChanged x r) room
+  kept-start : (c1 : ℕ) (g : Goal) (r : Regs) → wrongWork (r .setting) c1 g 0 ≡ false → Few g → Lawful r room → Lawful (regsChanged (Start c1 g) r) room
+  kept-start c1 (IntoSector id) r e f w =
+      let fits : Small (r .index) 0 (r .write .shape .sectors) = record { index-fits = w .small .index-fits; taken-fits = omega arith; sectors-fit = w .small .sectors-fit } in
+      record { command = w .command; reply = w .reply; unread = w .unread; write = e; small = fits }
+  kept-start c1 (IntoTrack x) r e f w =
+      let fits : Small (r .index) 0 (x .sectors) = record { index-fits = w .small .index-fits; taken-fits = omega arith; sectors-fit = f } in
+      record { command = w .command; reply = w .reply; unread = w .unread; write = e; small = fits }
+
+  kept-change : (x : Change) (r : Regs) → Fair (r .setting) x → Lawful r room → Lawful (regsChanged x r) room
   kept-change Clear r f w = record {
     command = record { nine = w .command .nine; below = omega (arith, bytes-range (commandOf (getD (r .command) 0 0)) .0) };
     reply = w .reply;
@@ -177,16 +190,26 @@ module _ (room : ℕ) where
   }
   kept-change (MoveTo c) r f w = record { command = w .command; reply = w .reply; unread = w .unread; write = w .write; small = w .small }
   kept-change Turn r f w =
-      record { command = w .command; reply = w .reply; unread = w .unread; write = w .write; small = record { index-fits = mod-lt (r .index + 1) (omega arith); taken-fits = w .small .taken-fits } }
-  kept-change (Start c1 id) r f w =
-      let fits : Small (r .index) 0 = record { index-fits = w .small .index-fits; taken-fits = omega arith } in
-      record { command = w .command; reply = w .reply; unread = w .unread; write = rw (lt-leb (sizeOf (id .n)) 0 (size-pos (id .n)), f); small = fits }
-  kept-change Finish r f w = record { command = w .command; reply = w .reply; unread = w .unread; write = refl; small = record { index-fits = w .small .index-fits; taken-fits = omega arith } }
+      let fits : Small ((r .index + 1) % 65536) (r .write .taken) (r .write .shape .sectors) = record { index-fits = mod-lt (r .index + 1) (omega arith); taken-fits = w .small .taken-fits; sectors-fit = w .small .sectors-fit } in
+      record { command = w .command; reply = w .reply; unread = w .unread; write = w .write; small = fits }
+  kept-change (Start c1 g) r f w = kept-start c1 g r (f .0) (f .1) w
+  kept-change Finish r f w =
+      let fits : Small (r .index) 0 (r .write .shape .sectors) = record { index-fits = w .small .index-fits; taken-fits = omega arith; sectors-fit = w .small .sectors-fit } in
+      record { command = w .command; reply = w .reply; unread = w .unread; write = refl; small = fits }
 
-  pub kept-changes : (xs : List Change) (r : Regs) → AllFair xs → Lawful r room → Lawful (regsAll xs r) room
+  -- none of them changes what the controller was made with
+  pub setting-kept : (x : Change) (r : Regs) → regsChanged x r .setting ≡ r .setting
+  setting-kept Clear r = refl
+  setting-kept (MoveTo c) r = refl
+  setting-kept Turn r = refl
+  setting-kept (Start c1 g) r = refl
+  setting-kept Finish r = refl
+
+  pub kept-changes : (xs : List Change) (r : Regs) → AllFair (r .setting) xs → Lawful r room → Lawful (regsAll xs r) room
   unfolding regsAll
   kept-changes [] r f w = w
-  kept-changes (x ∷ xs) r f w = kept-changes xs (regsChanged x r) (f .1) (kept-change x r (f .0) w)
+  kept-changes (x ∷ xs) r f w =
+      kept-changes xs (regsChanged x r) (subst (λ (s : Setting). AllFair s xs) (sym (setting-kept x r)) (f .1)) (kept-change x r (f .0) w)
 
   -- ---- responses
 
@@ -209,11 +232,11 @@ module _ (room : ℕ) where
       go true = unfold ifUnread in w
       go false = unfold ifUnread in kept-reply bytes r q w
   kept-response Seeking r q w = kept-reply [] (sought Running r) (omega arith) (kept-sought Running r w)
-  kept-response (Interrupt c) r q w = go (r .drive .seek)
+  kept-response (Interrupt c y) r q w = go (r .drive .seek)
     where
-      go : (k : Seek) → Lawful (interruptedBy c r k) room
-      go Idle = unfold interruptedBy in kept-reply (0x80 ∷ c ∷ []) r (omega arith) w
+      go : (k : Seek) → Lawful (interruptedBy c y r k) room
+      go Idle = unfold interruptedBy in kept-reply y r q w
       go Running = unfold interruptedBy in kept-reply (0x20 ∷ c ∷ []) (sought Done r) (omega arith) (kept-sought Done r w)
-      go Done = unfold interruptedBy in kept-reply (0x80 ∷ c ∷ []) r (omega arith) w
+      go Done = unfold interruptedBy in kept-reply y r q w
   kept-response (Serve bytes reply) r q w =
       record { command = w .command; reply = padded reply (q .1); unread = record { read = omega arith; inside = q .0; few = w .unread .few }; write = w .write; small = w .small }

@@ -1,23 +1,26 @@
 -- What is known of a controller whose numbers are possible.
-use mathlib.Core.Path.{_≡_, refl}
-use Prim.Native.Nat.{ℕ, _≤_, _<_}
+use mathlib.Core.Path.{_≡_, refl, sym, ap, _∙_}
+use Prim.Native.Nat.{ℕ, _*_, _≤_, _<_}
 use native.Mathlib.Omega.{arith}
 use mathlib.Core.Bool.{Bool, true, false, not, _&&_, _||_}
 use mathlib.Core.List.{List}
 use lib.ListN.{length, getD}
 use lib.Dec.{ltb, leb}
-use borrow.Author.Tests.{ltb-false, leb-false, not-false}
+use borrow.Author.Tests.{ltb-false, leb-false, le-leb, lt-leb, not-false}
+use Rattle.fields.specs.Capacities.{mostHeld}
 use Rattle.fields.specs.Model.{sizeOf}
+use Rattle.fields.proofs.Sizes.{size-most}
 use Rattle.fields.proofs.Tests.{never}
 use Rattle.store.specs.Store.{transferRoom}
 use Rattle.registers.specs.declared.regs.Regs.{Regs}
 use Rattle.registers.specs.declared.regs.Pending.{Pending}
+use Rattle.registers.specs.declared.regs.Setting.{Setting}
 use Rattle.codes.specs.Table.{commandOf, bytesFor}
-use Rattle.registers.specs.View.{impossible, impossibleIn, wrongWrite}
+use Rattle.registers.specs.View.{goalIf, goalOf, isRust, unknownTo, impossible, impossibleIn, wrongWork, wrongWrite}
 use Rattle.codes.proofs.Rows.{bytes-range}
 use Rattle.store.proofs.Checks.{transfer-in}
-use Rattle.registers.specs.Boxes.{fitted}
-use Rattle.registers.specs.Possible.{Possible}
+use Rattle.registers.specs.Boxes.{Goal, IntoSector, IntoTrack, wholeOf, fitted}
+use Rattle.registers.specs.Possible.{Possible, Few}
 
 pub neither : (a b : Bool) → (a || b) ≡ false → (a ≡ false) × (b ≡ false)
 neither true b e = never (cc)
@@ -55,18 +58,95 @@ count-few r e = omega (arith, possible r e .count-in, bytes-range (commandOf (ge
 pub until-long : (x : List ℕ) (r : Regs) → impossibleIn x r ≡ false → r .until ≤ length x
 until-long x r e = omega (arith, until-in x r e, transfer-in x)
 
--- a write in progress
-module _ (p : Pending) (e : wrongWrite p ≡ false) where
-  taken-of : (f : Bool) → f ≡ true → (f && (leb (sizeOf (p .id .n)) (p .taken) || not (fitted (p .c1)))) ≡ false → p .taken < sizeOf (p .id .n)
-  taken-of true q h = leb-false (sizeOf (p .id .n)) (p .taken) (neither (leb (sizeOf (p .id .n)) (p .taken)) _ h .0)
-  taken-of false q h = never (cc)
+-- how many bytes are written at the most
+pub whole-most : (g : Goal) → Few g → wholeOf g ≤ mostHeld
+whole-most (IntoSector id) f = size-most (id .n)
+whole-most (IntoTrack x) f = omega (arith, f)
 
-  pub taken-few : p .on ≡ true → p .taken < sizeOf (p .id .n)
-  taken-few q = taken-of (p .on) q e
+pub goal-few : (p : Pending) → p .shape .sectors < 256 → Few (goalOf p)
+goal-few p h = go (p .track)
+  where
+    go : (v : Bool) → Few (goalIf v (p .id) (p .shape))
+    go true = h
+    go false = tt
 
-  fitted-of : (f : Bool) → f ≡ true → (f && (leb (sizeOf (p .id .n)) (p .taken) || not (fitted (p .c1)))) ≡ false → fitted (p .c1) ≡ true
-  fitted-of true q h = not-false (fitted (p .c1)) (neither (leb (sizeOf (p .id .n)) (p .taken)) _ h .1)
-  fitted-of false q h = never (cc)
+-- a write that refusal 1 does not name: bytes are to come, and its drive is fitted
+module _ (s : Setting) (c1 : ℕ) (g : Goal) (n : ℕ) where
+  pub work-below : wrongWork s c1 g n ≡ false → n < wholeOf g
+  unfolding wrongWork
+  work-below e = leb-false (wholeOf g) n (neither (leb (wholeOf g) n) _ e .0)
+
+  pub work-fitted : wrongWork s c1 g n ≡ false → fitted c1 ≡ true
+  unfolding wrongWork
+  work-fitted e = not-false (fitted c1) (neither (not (fitted c1)) _ (neither (leb (wholeOf g) n) _ e .1) .0)
+
+  -- nor does it with more bytes, as long as some are to come
+  pub work-more : (m : ℕ) → m < wholeOf g → wrongWork s c1 g n ≡ false → wrongWork s c1 g m ≡ false
+  unfolding wrongWork
+  work-more m h e = rw (lt-leb (wholeOf g) m h) (neither (leb (wholeOf g) n) _ e .1)
+
+  -- what it names, in the order in which it is asked
+  pub work-full : wholeOf g ≤ n → wrongWork s c1 g n ≡ true
+  unfolding wrongWork
+  work-full h = rw (le-leb (wholeOf g) n h)
+
+  pub work-drive : n < wholeOf g → fitted c1 ≡ false → wrongWork s c1 g n ≡ true
+  unfolding wrongWork
+  work-drive h e = rw (lt-leb (wholeOf g) n h, e)
+
+  pub work-rest : n < wholeOf g → fitted c1 ≡ true → wrongWork s c1 g n ≡ unknownTo (s .machine) g
+  unfolding wrongWork
+  work-rest h e = rw (lt-leb (wholeOf g) n h, e)
+
+-- the same of a write in progress, for whoever asks
+module _ (s : Setting) (p : Pending) where
+  asked-of : (f v : Bool) → f ≡ true → wrongWork s (p .c1) (goalOf p) (p .taken) ≡ v → v ≡ (f && wrongWork s (p .c1) (goalOf p) (p .taken))
+  asked-of true v q e = sym e
+  asked-of false v q e = never (cc)
+
+  pub write-off : p .on ≡ false → false ≡ wrongWrite s p
+  write-off q = go (p .on) q
+    where
+      go : (f : Bool) → f ≡ false → false ≡ (f && wrongWork s (p .c1) (goalOf p) (p .taken))
+      go true q = never (cc)
+      go false q = refl
+
+  pub write-full : p .on ≡ true → wholeOf (goalOf p) ≤ p .taken → true ≡ wrongWrite s p
+  write-full q h = asked-of (p .on) true q (work-full s (p .c1) (goalOf p) (p .taken) h)
+
+  pub write-drive : p .on ≡ true → p .taken < wholeOf (goalOf p) → fitted (p .c1) ≡ false → true ≡ wrongWrite s p
+  write-drive q h e = asked-of (p .on) true q (work-drive s (p .c1) (goalOf p) (p .taken) h e)
+
+  pub write-sector : p .on ≡ true → p .taken < wholeOf (goalOf p) → fitted (p .c1) ≡ true → p .track ≡ false → false ≡ wrongWrite s p
+  write-sector q h e t =
+      asked-of (p .on) false q (work-rest s (p .c1) (goalOf p) (p .taken) h e ∙ ap (λ (v : Bool). unknownTo (s .machine) (goalIf v (p .id) (p .shape))) t)
+
+  pub write-track : p .on ≡ true → p .taken < wholeOf (goalOf p) → fitted (p .c1) ≡ true → p .track ≡ true → isRust (s .machine) ≡ wrongWrite s p
+  write-track q h e t =
+      asked-of (p .on) (isRust (s .machine)) q
+      (work-rest s (p .c1) (goalOf p) (p .taken) h e ∙ ap (λ (v : Bool). unknownTo (s .machine) (goalIf v (p .id) (p .shape))) t)
+
+-- how many bytes a write takes, by whether it is a Format's
+pub whole-by : (p : Pending) (f : Bool) → p .track ≡ f → wholeOf (goalOf p) ≡ wholeOf (goalIf f (p .id) (p .shape))
+whole-by p f e = ap (λ (v : Bool). wholeOf (goalIf v (p .id) (p .shape))) e
+
+pub track-whole : (p : Pending) (n : ℕ) → p .track ≡ true → n ≡ p .shape .sectors → n < 256 → (4 * n ≡ wholeOf (goalOf p)) × (4 * n ≤ mostHeld)
+track-whole p n e q h = (ap (λ (k : ℕ). 4 * k) q ∙ sym (whole-by p true e), omega (arith, h))
+
+pub sector-whole : (p : Pending) (n : ℕ) → p .track ≡ false → n ≡ sizeOf (p .id .n) → (n ≡ wholeOf (goalOf p)) × (n ≤ mostHeld)
+sector-whole p n e q = (q ∙ sym (whole-by p false e), omega (arith, q, size-most (p .id .n)))
+
+-- a write in progress that refusal 1 does not name
+module _ (s : Setting) (p : Pending) (e : wrongWrite s p ≡ false) where
+  right-of : (f : Bool) → f ≡ true → (f && wrongWork s (p .c1) (goalOf p) (p .taken)) ≡ false → wrongWork s (p .c1) (goalOf p) (p .taken) ≡ false
+  right-of true q h = h
+  right-of false q h = never (cc)
+
+  pub write-right : p .on ≡ true → wrongWork s (p .c1) (goalOf p) (p .taken) ≡ false
+  write-right q = right-of (p .on) q e
+
+  pub taken-few : p .on ≡ true → p .taken < wholeOf (goalOf p)
+  taken-few q = work-below s (p .c1) (goalOf p) (p .taken) (write-right q)
 
   pub fitted-few : p .on ≡ true → fitted (p .c1) ≡ true
-  fitted-few q = fitted-of (p .on) q e
+  fitted-few q = work-fitted s (p .c1) (goalOf p) (p .taken) (write-right q)

@@ -1,16 +1,18 @@
 -- The boxes that a controller has, and the changes that a byte sent to it can bring (01, "Status and data ports").
-use Prim.Native.Nat.{ℕ, _+_, _%_}
+use Prim.Native.Nat.{ℕ, _+_, _*_, _%_}
 use mathlib.Core.Bool.{Bool, true, false}
 use mathlib.Core.List.{List, [], _∷_, _++_}
 use mathlib.Core.Option.{Option, none, some}
 use lib.Dec.{eqb}
 use Rattle.fields.specs.Refusals.{Result, good}
-use Rattle.fields.specs.Model.{Disk}
+use Rattle.fields.specs.Model.{sizeOf, Disk}
 use Rattle.fields.specs.declared.id.SectorId.{SectorId}
 use Rattle.store.specs.declared.answer.Match.{Match}
 use Rattle.store.specs.Search.{noMatch}
 use Rattle.codes.specs.Second.{driveOf}
 use Rattle.registers.specs.declared.regs.Report.{Report}
+use Rattle.registers.specs.declared.regs.Setting.{Setting}
+use Rattle.registers.specs.declared.regs.Shape.{Shape}
 use Rattle.registers.specs.declared.regs.Seek.{Seek}
 use Rattle.registers.specs.declared.regs.Seek.the-variants.{Idle, Running, Done}
 
@@ -37,14 +39,26 @@ pub record Bay : Type 0 where
 pub record Drives : Type 0 where
   pub first : Bay
 
--- a write in progress: the command's second byte c1, the sector's ID, and the bytes that are held so far
+-- what is written: the data of a sector, by its ID; or, for a Format, the IDs of a track: its n, how many sectors, gap, filler (2026-06)
+pub data Goal : Type 0 where
+  IntoSector : SectorId → Goal
+  IntoTrack : Shape → Goal
+
+-- how many bytes that takes: as the sector's n calls for, or four for each ID
+abbrev pub wholeOf : Goal → ℕ
+wholeOf (IntoSector id) = sizeOf (id .n)
+wholeOf (IntoTrack x) = 4 * x .sectors
+
+-- a write in progress: the command's second byte c1, what is written, and the bytes that are held so far
 pub record Writing : Type 0 where
   pub c1 : ℕ
-  pub id : SectorId
+  pub goal : Goal
   pub held : List ℕ
 
--- what only sent bytes change: motor, Read ID's index, a command partly sent, a write in progress, the drives
+-- what a controller is made with, and keeps (2026-06); and what only sent bytes change: motor, Read ID's index, a command partly sent, a write in
+-- progress, the drives
 pub record Inside : Type 0 where
+  pub setting : Setting
   pub motor : Bool
   pub index : ℕ
   pub command : List ℕ
@@ -63,10 +77,11 @@ pub record World : Type 0 where
   pub inside : Inside
   pub front : Front
 
--- a new controller: `Floppy::new`
-unfoldable pub newWorld : World
-newWorld = record {
+-- a new controller: `Floppy::new_with`
+unfoldable pub newWorld : Setting → World
+newWorld x = record {
   inside = record {
+    setting = x;
     motor = false;
     index = 0;
     command = [];
@@ -108,20 +123,21 @@ pub data Change : Type 0 where
   Clear : Change
   MoveTo : ℕ → Change
   Turn : Change
-  Start : ℕ → SectorId → Change
+  Start : ℕ → Goal → Change
   Finish : Change
 
 -- a reply of seven bytes: st0, st1, st2 and four more
 abbrev pub seven : ℕ → ℕ → ℕ → SectorId → List ℕ
 seven st0 st1 st2 id = st0 ∷ st1 ∷ st2 ∷ id .c ∷ id .h ∷ id .r ∷ id .n ∷ []
 
--- a change in front: none, a reply, a reply unless one is unread, a seek, what Sense Interrupt tells, data with their reply
+-- a change in front: none, a reply, a reply unless one is unread, a seek, what Sense Interrupt tells (of a seek to a cylinder, and of none), data with
+-- their reply
 pub data Response : Type 0 where
   Stay : Response
   Reply : List ℕ → Response
   ReplyIfNone : List ℕ → Response
   Seeking : Response
-  Interrupt : ℕ → Response
+  Interrupt : ℕ → List ℕ → Response
   Serve : List ℕ → List ℕ → Response
 
 -- what the host is told beside that a byte was taken: nothing, or which sector was served (2026-05)
@@ -147,17 +163,17 @@ pub record Sent : Type 0 where
 
 -- the boxes with a command, with a write, with drives
 abbrev pub withCommand : List ℕ → Inside → Inside
-withCommand x i = record { motor = i .motor; index = i .index; command = x; write = i .write; drives = i .drives }
+withCommand x i = record { setting = i .setting; motor = i .motor; index = i .index; command = x; write = i .write; drives = i .drives }
 
 abbrev pub withWrite : Option Writing → Inside → Inside
-withWrite x i = record { motor = i .motor; index = i .index; command = i .command; write = x; drives = i .drives }
+withWrite x i = record { setting = i .setting; motor = i .motor; index = i .index; command = i .command; write = x; drives = i .drives }
 
 abbrev pub withDrives : Drives → Inside → Inside
-withDrives x i = record { motor = i .motor; index = i .index; command = i .command; write = i .write; drives = x }
+withDrives x i = record { setting = i .setting; motor = i .motor; index = i .index; command = i .command; write = i .write; drives = x }
 
 -- a write of which one more byte is held
 abbrev pub holding : ℕ → Writing → Writing
-holding b w = record { c1 = w .c1; id = w .id; held = w .held ++ (b ∷ []) }
+holding b w = record { c1 = w .c1; goal = w .goal; held = w .held ++ (b ∷ []) }
 
 abbrev pub holdingIn : ℕ → Option Writing → Option Writing
 holdingIn b none = none
@@ -178,8 +194,8 @@ loadedWith x d = record { first = record { cylinder = d .first .cylinder; slot =
 unfoldable pub changed : Change → Inside → Inside
 changed Clear i = withCommand [] i
 changed (MoveTo c) i = withDrives (movedTo c (i .drives)) i
-changed Turn i = record { motor = i .motor; index = (i .index + 1) % 65536; command = i .command; write = i .write; drives = i .drives }
-changed (Start c1 id) i = withWrite (some record { c1 = c1; id = id; held = [] }) i
+changed Turn i = record { setting = i .setting; motor = i .motor; index = (i .index + 1) % 65536; command = i .command; write = i .write; drives = i .drives }
+changed (Start c1 goal) i = withWrite (some record { c1 = c1; goal = goal; held = [] }) i
 changed Finish i = withWrite none i
 
 unfoldable pub allChanged : List Change → Inside → Inside
@@ -203,16 +219,16 @@ abbrev pub ifNone : List ℕ → List ℕ → List ℕ
 ifNone new [] = new
 ifNone new (x ∷ xs) = x ∷ xs
 
--- Running becomes Done, 0x20 and the cylinder; else 0x80 and the cylinder
-unfoldable pub interrupted : ℕ → Front → Seek → Front
-interrupted c f Idle = withReply (0x80 ∷ c ∷ []) f
-interrupted c f Running = record { seek = Done; reply = 0x20 ∷ c ∷ []; unread = f .unread; lost = f .lost }
-interrupted c f Done = withReply (0x80 ∷ c ∷ []) f
+-- Running becomes Done, 0x20 and the cylinder; else what is told of none
+unfoldable pub interrupted : ℕ → List ℕ → Front → Seek → Front
+interrupted c x f Idle = withReply x f
+interrupted c x f Running = record { seek = Done; reply = 0x20 ∷ c ∷ []; unread = f .unread; lost = f .lost }
+interrupted c x f Done = withReply x f
 
 unfoldable pub responded : Response → Front → Front
 responded Stay f = f
 responded (Reply x) f = withReply x f
 responded (ReplyIfNone x) f = withReply (ifNone x (f .reply)) f
 responded Seeking f = record { seek = Running; reply = []; unread = f .unread; lost = f .lost }
-responded (Interrupt c) f = interrupted c f (f .seek)
+responded (Interrupt c x) f = interrupted c x f (f .seek)
 responded (Serve bytes x) f = record { seek = f .seek; reply = x; unread = bytes; lost = f .lost }

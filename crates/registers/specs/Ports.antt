@@ -111,6 +111,7 @@ afterRead w = record { inside = w .inside; front = readFrom (sourceBy (some? (w 
 unfoldable pub setMotor : Bool → World → World
 setMotor on w = record {
   inside = record {
+    setting = w .inside .setting;
     motor = on;
     index = w .inside .index;
     command = w .inside .command;

@@ -6,8 +6,10 @@ use mathlib.Core.List.{List, [], _∷_}
 use lib.ListN.{length, getD}
 use Rattle.codes.specs.Table.{commandOf, bytesFor}
 use Rattle.registers.specs.declared.regs.Regs.{Regs}
-use Rattle.registers.specs.Boxes.{fitted, Change, Clear, MoveTo, Turn, Start, Finish, Response, Stay, Reply, ReplyIfNone, Seeking, Interrupt, Serve}
-use Rattle.registers.specs.View.{wrongWrite}
+use Rattle.registers.specs.declared.regs.Setting.{Setting}
+use Rattle.registers.specs.Boxes.{Goal, IntoSector, IntoTrack, Change, Clear, MoveTo, Turn, Start, Finish}
+use Rattle.registers.specs.Boxes.{Response, Stay, Reply, ReplyIfNone, Seeking, Interrupt, Serve}
+use Rattle.registers.specs.View.{wrongWork, wrongWrite}
 
 -- numbers that refusal 1 does not name
 pub record Possible (r : Regs) : Type 0 where
@@ -16,7 +18,7 @@ pub record Possible (r : Regs) : Type 0 where
   pub fill-in : r .fill ≤ 7
   pub count-in : r .count < bytesFor (commandOf (getD (r .command) 0 0))
   pub lost-in : r .lost ≤ 2
-  pub write-in : wrongWrite (r .write) ≡ false
+  pub write-in : wrongWrite (r .setting) (r .write) ≡ false
 
 -- ---- The same box by box, with the lengths and the rooms
 
@@ -35,32 +37,38 @@ pub record Unread (from until lost room : ℕ) : Type 0 where
   pub inside : until ≤ room
   pub few : lost ≤ 2
 
--- the index and the fill of a write, as small as their types say
-pub record Small (index taken : ℕ) : Type 0 where
+-- the index, the fill of a write and the sectors of a Format, as small as their types say
+pub record Small (index taken sectors : ℕ) : Type 0 where
   pub index-fits : index < 65536
   pub taken-fits : taken < 65536
+  pub sectors-fit : sectors < 256
 
 -- arrays and numbers as their types say, numbers that are possible, and unread data inside the transfer room
 pub record Lawful (r : Regs) (room : ℕ) : Type 0 where
   pub command : Partly (r .command) (r .count)
   pub reply : Replying (r .reply) (r .place) (r .fill)
   pub unread : Unread (r .from) (r .until) (r .lost) room
-  pub write : wrongWrite (r .write) ≡ false
-  pub small : Small (r .index) (r .write .taken)
+  pub write : wrongWrite (r .setting) (r .write) ≡ false
+  pub small : Small (r .index) (r .write .taken) (r .write .shape .sectors)
 
 -- ---- What changes and responses must be
 
--- a write starts on a drive that is fitted
-abbrev pub Fair : Change → Type 0
-Fair Clear = Unit {0}
-Fair (MoveTo c) = Unit {0}
-Fair Turn = Unit {0}
-Fair (Start c1 id) = fitted c1 ≡ true
-Fair Finish = Unit {0}
+-- sectors as few as a byte can name
+abbrev pub Few : Goal → Type 0
+Few (IntoSector id) = Unit {0}
+Few (IntoTrack x) = x .sectors < 256
 
-abbrev pub AllFair : List Change → Type 0
-AllFair [] = Unit {0}
-AllFair (x ∷ xs) = Fair x × AllFair xs
+-- a write starts that refusal 1 does not name
+abbrev pub Fair : Setting → Change → Type 0
+Fair s Clear = Unit {0}
+Fair s (MoveTo c) = Unit {0}
+Fair s Turn = Unit {0}
+Fair s (Start c1 goal) = (wrongWork s c1 goal 0 ≡ false) × Few goal
+Fair s Finish = Unit {0}
+
+abbrev pub AllFair : Setting → List Change → Type 0
+AllFair s [] = Unit {0}
+AllFair s (x ∷ xs) = Fair s x × AllFair s xs
 
 -- a reply is of seven bytes at most, and data fit the transfer room
 abbrev pub Short : ℕ → Response → Type 0
@@ -68,5 +76,5 @@ Short room Stay = Unit {0}
 Short room (Reply y) = length y ≤ 7
 Short room (ReplyIfNone y) = length y ≤ 7
 Short room Seeking = Unit {0}
-Short room (Interrupt c) = Unit {0}
+Short room (Interrupt c y) = length y ≤ 7
 Short room (Serve bytes y) = (length bytes ≤ room) × (length y ≤ 7)

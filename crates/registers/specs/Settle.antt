@@ -15,7 +15,7 @@ use Rattle.registers.specs.declared.regs.Receipt.the-variants as receipt
 use Rattle.registers.specs.declared.regs.Written.{Written}
 use Rattle.registers.specs.declared.regs.Seek.{Seek}
 use Rattle.registers.specs.declared.regs.Seek.the-variants.{Idle, Running, Done}
-use Rattle.registers.specs.Boxes.{fitted, Taking, Add, Hold, Change, Clear, MoveTo, Turn, Start, Finish, Response, Stay, Reply, ReplyIfNone}
+use Rattle.registers.specs.Boxes.{Goal, IntoSector, IntoTrack, fitted, Taking, Add, Hold, Change, Clear, MoveTo, Turn, Start, Finish, Response, Stay, Reply, ReplyIfNone}
 use Rattle.registers.specs.Boxes.{Seeking, Interrupt, Serve, Effect}
 
 -- ---- The registers, with some of them anew
@@ -34,6 +34,7 @@ regsWithCommand x n r = record {
   index = r .index;
   write = r .write;
   drive = r .drive;
+  setting = r .setting;
 }
 
 abbrev pub regsWithReply : List ℕ → ℕ → ℕ → Regs → Regs
@@ -50,6 +51,7 @@ regsWithReply x p n r = record {
   index = r .index;
   write = r .write;
   drive = r .drive;
+  setting = r .setting;
 }
 
 abbrev pub regsWithUnread : ℕ → ℕ → ℕ → Regs → Regs
@@ -66,6 +68,7 @@ regsWithUnread p n l r = record {
   index = r .index;
   write = r .write;
   drive = r .drive;
+  setting = r .setting;
 }
 
 abbrev pub regsWithIndex : ℕ → Regs → Regs
@@ -82,6 +85,7 @@ regsWithIndex x r = record {
   index = x;
   write = r .write;
   drive = r .drive;
+  setting = r .setting;
 }
 
 abbrev pub regsWithWrite : Pending → Regs → Regs
@@ -98,6 +102,7 @@ regsWithWrite x r = record {
   index = r .index;
   write = x;
   drive = r .drive;
+  setting = r .setting;
 }
 
 abbrev pub regsWithDrive : Drive → Regs → Regs
@@ -114,6 +119,7 @@ regsWithDrive x r = record {
   index = r .index;
   write = r .write;
   drive = x;
+  setting = r .setting;
 }
 
 abbrev pub regsWithMotor : Bool → Regs → Regs
@@ -130,6 +136,7 @@ regsWithMotor x r = record {
   index = r .index;
   write = r .write;
   drive = r .drive;
+  setting = r .setting;
 }
 
 -- ---- Answers
@@ -163,10 +170,13 @@ sought s r = regsWithDrive (record { cylinder = r .drive .cylinder; seek = s; di
 
 -- ---- How a byte is taken
 
+-- a write that is in progress or not, with so many bytes held
+abbrev pub pendingWith : Bool → ℕ → Pending → Pending
+pendingWith on n p = record { on = on; c1 = p .c1; id = p .id; taken = n; track = p .track; shape = p .shape }
+
 abbrev pub regsTaken : Taking → Regs → Regs
 regsTaken (Add b) r = regsWithCommand (set (r .command) (r .count) b) (r .count + 1) r
-regsTaken (Hold b) r =
-    regsWithWrite (record { on = r .write .on; c1 = r .write .c1; id = r .write .id; taken = r .write .taken + 1 }) r
+regsTaken (Hold b) r = regsWithWrite (pendingWith (r .write .on) (r .write .taken + 1) (r .write)) r
 
 abbrev pub heldTaken : Taking → Regs → List ℕ → List ℕ
 heldTaken (Add b) r h = h
@@ -174,13 +184,18 @@ heldTaken (Hold b) r h = set h (r .write .taken) b
 
 -- ---- Changes and responses
 
--- a command that is done with leaves its bytes, a write its c1 and ID
+-- a write that starts, of a sector or of a track; what it is not leaves its numbers
+abbrev pub pendingFrom : ℕ → Goal → Pending → Pending
+pendingFrom c1 (IntoSector id) p = record { on = true; c1 = c1; id = id; taken = 0; track = false; shape = p .shape }
+pendingFrom c1 (IntoTrack x) p = record { on = true; c1 = c1; id = p .id; taken = 0; track = true; shape = x }
+
+-- a command that is done with leaves its bytes, a write all but its fill
 abbrev pub regsChanged : Change → Regs → Regs
 regsChanged Clear r = regsWithCommand (r .command) 0 r
 regsChanged (MoveTo c) r = regsWithDrive (record { cylinder = c; seek = r .drive .seek; disk = r .drive .disk }) r
 regsChanged Turn r = regsWithIndex ((r .index + 1) % 65536) r
-regsChanged (Start c1 id) r = regsWithWrite (record { on = true; c1 = c1; id = id; taken = 0 }) r
-regsChanged Finish r = regsWithWrite (record { on = false; c1 = r .write .c1; id = r .write .id; taken = 0 }) r
+regsChanged (Start c1 goal) r = regsWithWrite (pendingFrom c1 goal (r .write)) r
+regsChanged Finish r = regsWithWrite (pendingWith false 0 (r .write)) r
 
 unfoldable pub regsAll : List Change → Regs → Regs
 regsAll [] r = r
@@ -190,17 +205,17 @@ unfoldable pub ifUnread : Bool → List ℕ → Regs → Regs
 ifUnread true bytes r = r
 ifUnread false bytes r = replied bytes r
 
-unfoldable pub interruptedBy : ℕ → Regs → Seek → Regs
-interruptedBy c r Idle = replied (0x80 ∷ c ∷ []) r
-interruptedBy c r Running = replied (0x20 ∷ c ∷ []) (sought Done r)
-interruptedBy c r Done = replied (0x80 ∷ c ∷ []) r
+unfoldable pub interruptedBy : ℕ → List ℕ → Regs → Seek → Regs
+interruptedBy c x r Idle = replied x r
+interruptedBy c x r Running = replied (0x20 ∷ c ∷ []) (sought Done r)
+interruptedBy c x r Done = replied x r
 
 unfoldable pub regsResponded : Response → Regs → Regs
 regsResponded Stay r = r
 regsResponded (Reply bytes) r = replied bytes r
 regsResponded (ReplyIfNone bytes) r = ifUnread (ltb (r .place) (r .fill)) bytes r
 regsResponded Seeking r = replied [] (sought Running r)
-regsResponded (Interrupt c) r = interruptedBy c r (r .drive .seek)
+regsResponded (Interrupt c x) r = interruptedBy c x r (r .drive .seek)
 regsResponded (Serve bytes reply) r = replied reply (regsWithUnread 0 (length bytes) (r .lost) r)
 
 -- ---- A whole effect: the answer with the registers; a refusal leaves them as they came

@@ -8,11 +8,17 @@ use lib.ListN.{getD, take}
 use lib.Seq.{slice}
 use lib.Dec.{ltb, leb}
 use Rattle.fields.specs.Refusals.{Result}
-use Rattle.fields.specs.Model.{sizeOf, Disk}
+use Rattle.fields.specs.Model.{Disk}
+use Rattle.fields.specs.declared.id.SectorId.{SectorId}
 use Rattle.store.specs.Store.{roomOf, diskOf, transferRoom}
 use Rattle.registers.specs.declared.regs.Regs.{Regs}
 use Rattle.registers.specs.declared.regs.Pending.{Pending}
-use Rattle.registers.specs.Boxes.{Rooms, Slot, Empty, Holds, Drives, Writing, Inside, Front, World, fitted, Named, named}
+use Rattle.registers.specs.declared.regs.Setting.{Setting}
+use Rattle.registers.specs.declared.regs.Shape.{Shape}
+use Rattle.registers.specs.declared.regs.Machine.{Machine}
+use Rattle.registers.specs.declared.regs.Machine.the-variants.{Rust, DataSheet}
+use Rattle.registers.specs.Boxes.{Rooms, Slot, Empty, Holds, Drives, Goal, IntoSector, IntoTrack, wholeOf, Writing, Inside, Front, World}
+use Rattle.registers.specs.Boxes.{fitted, Named, named}
 use Rattle.codes.specs.Table.{commandOf, bytesFor}
 use Rattle.store.specs.declared.answer.Done.the-variants as done
 use Rattle.registers.specs.declared.regs.Told.{Told}
@@ -49,9 +55,17 @@ namedIn c1 r t b = named c1 (drivesOf r t b)
 abbrev pub namedAs : Bool → Drive → Slot → Named
 namedAs f d slot = record { fitted = f; cylinder = d .cylinder; slot = slot }
 
+-- what is written: of a track, if the flag says so
+abbrev pub goalIf : Bool → SectorId → Shape → Goal
+goalIf true id x = IntoTrack x
+goalIf false id x = IntoSector id
+
+abbrev pub goalOf : Pending → Goal
+goalOf p = goalIf (p .track) (p .id) (p .shape)
+
 -- a write, and the one that is in progress, if the flag says that one is
 abbrev pub writingOf : Pending → List ℕ → Writing
-writingOf p held = record { c1 = p .c1; id = p .id; held = held }
+writingOf p held = record { c1 = p .c1; goal = goalOf p; held = held }
 
 abbrev pub writingIf : Bool → Pending → List ℕ → Option Writing
 writingIf true p h = some (writingOf p (take (p .taken) h))
@@ -59,6 +73,7 @@ writingIf false p h = none
 
 unfoldable pub insideOf : Regs → List ℕ → Slot → Inside
 insideOf r h slot = record {
+  setting = r .setting;
   motor = r .motor;
   index = r .index;
   command = take (r .count) (r .command);
@@ -90,9 +105,21 @@ Leaves h t b x a w = (a .done ≡ done.Good) × (worldOf (a .regs) h t b x ≡ w
 
 -- ---- Refusal 1
 
--- a write in progress: its fill not below its sector size, or a c1 that names a drive other than 0
-abbrev pub wrongWrite : Pending → Bool
-wrongWrite p = p .on && (leb (sizeOf (p .id .n)) (p .taken) || not (fitted (p .c1)))
+-- the Rust machine has no Format in progress (2026-06)
+abbrev pub isRust : Machine → Bool
+isRust Rust = true
+isRust DataSheet = false
+
+abbrev pub unknownTo : Machine → Goal → Bool
+unknownTo m (IntoSector id) = false
+unknownTo m (IntoTrack x) = isRust m
+
+-- of a write or a Format in progress: as many bytes as it takes, or more; a c1 that names a drive other than 0; a Format in the Rust machine
+unfoldable pub wrongWork : Setting → ℕ → Goal → ℕ → Bool
+wrongWork x c1 goal taken = leb (wholeOf goal) taken || (not (fitted c1) || unknownTo (x .machine) goal)
+
+abbrev pub wrongWrite : Setting → Pending → Bool
+wrongWrite x p = p .on && wrongWork x (p .c1) (goalOf p) (p .taken)
 
 -- controller numbers are impossible: read place past fill, reply over 7 bytes, command not shorter than its length, lost count over 2, or the write
 unfoldable pub impossible : Regs → Bool
@@ -102,7 +129,7 @@ impossible r =
     || (ltb 7 (r .fill)
     || (leb (bytesFor (commandOf (getD (r .command) 0 0))) (r .count)
     || (ltb 2 (r .lost)
-    || wrongWrite (r .write)))))
+    || wrongWrite (r .setting) (r .write)))))
 
 -- in a call that is lent the transfer buffer: or data fill beyond its room
 unfoldable pub impossibleIn : List ℕ → Regs → Bool

@@ -8,14 +8,14 @@ use store::Done;
 use store::Match;
 ghost use mathlib.Core.Path.{_≡_};
 ghost use mathlib.Core.List.{_∷_, []};
-ghost use Prim.Native.Nat.{_<_};
+ghost use Prim.Native.Nat.{_<_, _≤_};
 ghost use lib.ListN.{getD};
 ghost use lib.Dec.{leb};
 ghost use Rattle.fields.specs.Capacities.{mostHeld};
 ghost use Rattle.codes.specs.Table.{commandOf, bytesFor};
-ghost use Rattle.registers.specs.Boxes.{silent, serves, fitted, seven, Add, Hold, Clear, Turn, Start, Finish, MoveTo};
-ghost use Rattle.registers.specs.View.{impossible, wrongWrite};
-ghost use Rattle.registers.specs.Settle.{accepted, declined, driveNamed, replied, regsWithDrive, regsTaken, regsChanged, kept};
+ghost use Rattle.registers.specs.Boxes.{IntoSector, IntoTrack, wholeOf, silent, serves, fitted, seven, Add, Hold, Clear, Turn, Start, Finish, MoveTo};
+ghost use Rattle.registers.specs.View.{isRust, goalOf, impossible, wrongWrite};
+ghost use Rattle.registers.specs.Settle.{accepted, declined, driveNamed, replied, regsWithDrive, pendingWith, regsTaken, regsChanged, kept};
 
 // The state of the last seek.
 pub enum Seek {
@@ -31,12 +31,34 @@ pub struct Drive {
     pub disk: bool,
 }
 
-// A write in progress: the command's second byte, the sector's ID, and how many bytes are held.
+// The machines: the Rust's, and the data sheet's.
+pub enum Machine {
+    Rust,
+    DataSheet,
+}
+
+// What a controller is made with.
+pub struct Setting {
+    pub machine: Machine,
+}
+
+// A track that a Format asks for: its n, how many sectors, gap and filler.
+pub struct Shape {
+    pub size: u8,
+    pub sectors: u8,
+    pub gap: u8,
+    pub filler: u8,
+}
+
+// A write in progress: the command's second byte, and how many bytes are held; they are those of the sector with this ID, or, for a Format, the
+// IDs of a track of this shape.
 pub struct Pending {
     pub on: bool,
     pub c1: u8,
     pub id: SectorId,
     pub taken: u16,
+    pub track: bool,
+    pub shape: Shape,
 }
 
 // In the Rust: `cmd` is `command` and `count`; `reply` is `reply`, `place` and `fill`; `data` is the transfer buffer from `from` up to `until`;
@@ -54,6 +76,7 @@ pub struct Regs {
     pub index: u16,
     pub write: Pending,
     pub drive: Drive,
+    pub setting: Setting,
 }
 
 // A byte, or why there is none.
@@ -104,6 +127,46 @@ pub fn fitted(c1: u8) -> bool
     drive_of(c1) == 0
 }
 
+impl Setting {
+    pub fn is_rust(self) -> bool
+        ensures { λ r. ⌜ r ≡ isRust (self .machine) ⌝ }
+    {
+        let machine = self.machine;
+        match machine {
+            Machine::Rust => true,
+            Machine::DataSheet => false,
+        }
+    }
+}
+
+impl Pending {
+    // How many bytes it takes.
+    pub fn whole(self) -> usize
+        ensures { λ r. ⌜ (r ≡ wholeOf (goalOf self)) × (r ≤ mostHeld) ⌝ }
+    {
+        if self.track {
+            return 4 * (self.shape.sectors as usize);
+        }
+        self.id.len()
+    }
+
+    // In progress or not, with so many bytes held.
+    fn with(self, on: bool, taken: u16) -> Self
+        ensures { λ r. ⌜ r ≡ pendingWith on taken self ⌝ }
+    {
+        let id = self.id;
+        let shape = self.shape;
+        Pending {
+            on,
+            c1: self.c1,
+            id,
+            taken,
+            track: self.track,
+            shape,
+        }
+    }
+}
+
 impl Regs {
     // Whether as much was sent as the command has, or more. Where nothing was sent, no table is asked.
     fn oversent(self) -> bool
@@ -118,15 +181,23 @@ impl Regs {
 
     // Numbers that no write in progress has.
     fn wrong_write(self) -> bool
-        ensures { λ r. ⌜ r ≡ wrongWrite (self .write) ⌝ }
+        ensures { λ r. ⌜ r ≡ wrongWrite (self .setting) (self .write) ⌝ }
     {
-        if !self.write.on {
+        let p = self.write;
+        if !p.on {
             return false;
         }
-        if self.write.id.len() <= self.write.taken as usize {
+        if p.whole() <= p.taken as usize {
             return true;
         }
-        !fitted(self.write.c1)
+        if !fitted(p.c1) {
+            return true;
+        }
+        if !p.track {
+            return false;
+        }
+        let setting = self.setting;
+        setting.is_rust()
     }
 
     // Numbers that no controller has.
@@ -225,14 +296,7 @@ impl Regs {
         ensures { λ r. ⌜ r ≡ regsTaken (Hold b) self ⌝ }
     {
         let p = self.write;
-        let id = p.id;
-        let write = Pending {
-            on: p.on,
-            c1: p.c1,
-            id,
-            taken: p.taken + 1,
-        };
-        self.write = write;
+        self.write = p.with(p.on, p.taken + 1);
         self
     }
 
@@ -250,14 +314,37 @@ impl Regs {
         self
     }
 
+    // A write of a sector starts.
     pub fn started(mut self, c1: u8, id: SectorId) -> Self
-        ensures { λ r. ⌜ r ≡ regsChanged (Start c1 id) self ⌝ }
+        ensures { λ r. ⌜ r ≡ regsChanged (Start c1 (IntoSector id)) self ⌝ }
     {
+        let p = self.write;
+        let shape = p.shape;
         let write = Pending {
             on: true,
             c1,
             id,
             taken: 0,
+            track: false,
+            shape,
+        };
+        self.write = write;
+        self
+    }
+
+    // A Format awaits its IDs.
+    pub fn awaiting(mut self, c1: u8, shape: Shape) -> Self
+        ensures { λ r. ⌜ r ≡ regsChanged (Start c1 (IntoTrack shape)) self ⌝ }
+    {
+        let p = self.write;
+        let id = p.id;
+        let write = Pending {
+            on: true,
+            c1,
+            id,
+            taken: 0,
+            track: true,
+            shape,
         };
         self.write = write;
         self
@@ -267,14 +354,7 @@ impl Regs {
         ensures { λ r. ⌜ r ≡ regsChanged Finish self ⌝ }
     {
         let p = self.write;
-        let id = p.id;
-        let write = Pending {
-            on: false,
-            c1: p.c1,
-            id,
-            taken: 0,
-        };
-        self.write = write;
+        self.write = p.with(false, 0);
         self
     }
 

@@ -1,11 +1,12 @@
 use mathlib.Core.Path.{_≡_, ap, _∙_}
 use Rattle.codes.specs.declared.command.Command.{Command}
 use Rattle.registers.specs.declared.regs.Written.{Written}
-use Rattle.registers.specs.Settle.{regsOf, regsAll, regsResponded}
+use Rattle.registers.specs.Boxes.{silent}
+use Rattle.registers.specs.Settle.{accepted, regsOf, regsAll, regsResponded}
 use Rattle.commands.specs.Commands.{obeyed}
 use Rattle.commands.specs.Lent.{Ran, ran, ranHere}
 use Rattle.commands.proofs.Effects.{sense-ran, seek-ran}
-use Rattle.commands.proofs.Runs.{told-command, ran-quiet, ran-read, ran-stored, quiet-seek, quiet-write, quiet-id, unput-read, still-format}
+use Rattle.commands.proofs.Runs.{told-command, ran-quiet, ran-read, ran-stored, quiet-seek, quiet-invalid, quiet-write, quiet-id, unput-read, still-format}
 use borrow.Author.Needs.{needs}
 use Rattle.commands.proofs.command.run_cmd.Statement.{statement}
 use Rattle.commands.proofs.command.run_cmd.Tie as tie
@@ -126,6 +127,9 @@ done-requires-5 c κs = search needs
 enum-told-13 : tie.Need-enum-told-13
 enum-told-13 c = search needs
 
+invalid-requires : tie.Need-invalid-requires
+invalid-requires c κs = search needs
+
 done-requires-6 : tie.Need-done-requires-6
 done-requires-6 c κs = search needs
 
@@ -244,7 +248,7 @@ returns-11 c =
     let k = c .before .before .before .before in
     let e = k .before .before .before in
     let s = e .before .before .before .before .before in
-    run-as s _ _ (e .enum-told11 .given .1) (ran-stored _ _ _ _ _ _ _ _ (still-format _ _ _) (k .format-track .ensures _))
+    run-as s _ _ (e .enum-told11 .given .1) (ran-stored _ _ _ _ _ _ _ _ (still-format _ _ _ _) (k .format-track .ensures _))
 
 returns-12 : tie.Need-returns-12
 unfolding obeyed regsOf regsAll regsResponded
@@ -256,9 +260,9 @@ returns-12 c =
 returns-13 : tie.Need-returns-13
 unfolding obeyed regsOf regsAll regsResponded
 returns-13 c =
-    let e = c .before in
+    let e = c .before .before in
     let s = e .before .before .before .before .before in
-    run-as s _ _ (e .enum-told13 .given .1) (same-bytes s _ _ (c .done6 .ensures))
+    run-as s _ _ (e .enum-told13 .given .1) (ran-quiet _ _ _ _ _ _ (quiet-invalid (s .args .regs .setting .machine)) (c .done6 .ensures ∙ ap (accepted silent) (c .before .invalid .ensures)))
 
 pub run-cmd-spec : {M : Type 1} → statement M
 run-cmd-spec =
@@ -299,6 +303,7 @@ run-cmd-spec =
     enum-told-12
     done-requires-5
     enum-told-13
+    invalid-requires
     done-requires-6
     returns
     returns-2
