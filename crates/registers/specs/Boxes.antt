@@ -11,6 +11,7 @@ use Rattle.store.specs.declared.answer.Match.{Match}
 use Rattle.store.specs.Search.{noMatch}
 use Rattle.codes.specs.Second.{driveOf}
 use Rattle.registers.specs.declared.regs.Report.{Report}
+use Rattle.registers.specs.declared.regs.Machine.the-variants.{Rust, DataSheet}
 use Rattle.registers.specs.declared.regs.Setting.{Setting}
 use Rattle.registers.specs.declared.regs.Shape.{Shape}
 use Rattle.registers.specs.declared.regs.Seek.{Seek}
@@ -22,6 +23,15 @@ use Rattle.registers.specs.declared.regs.Seek.the-variants.{Idle, Runnin
 pub record Rooms : Type 0 where
   pub room : ℕ
   pub transfer : ℕ
+
+-- ---- What a controller is made with
+
+-- the Rust machine, and the data-sheet machine (2026-06)
+abbrev pub rustMachine : Setting
+rustMachine = record { machine = Rust }
+
+abbrev pub sheetMachine : Setting
+sheetMachine = record { machine = DataSheet }
 
 -- ---- The boxes
 

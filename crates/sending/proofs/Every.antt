@@ -8,10 +8,10 @@ use lib.ListN.{length}
 use lib.Dec.{eqb}
 use borrow.Author.Tests.{eqb-true}
 use Rattle.fields.specs.Refusals.{Result, refused, good}
-use Rattle.fields.specs.Model.{sizeOf, Disk}
+use Rattle.fields.specs.Model.{Disk}
 use Rattle.codes.specs.declared.command.Command.{Command}
 use Rattle.codes.specs.Table.{commandOf, bytesFor}
-use Rattle.registers.specs.Boxes.{Rooms, Inside, Writing, named, holding, Taking, Add, Hold, Response, Stay, Effect, Sent}
+use Rattle.registers.specs.Boxes.{Rooms, Inside, wholeOf, Writing, named, holding, Taking, Add, Hold, Response, Stay, Effect, Sent}
 use Rattle.commands.specs.Commands.{byte, obeyed, written}
 use Rattle.sending.specs.Machine.{sends, clearing, commandIf, commandByte, dataIf, dataByte, byteFor, sent}
 
@@ -41,11 +41,11 @@ module _ (P : Response → Option Disk → Type 0) where
     abbrev Which : Command
     Which = commandOf (byte Line 0)
 
-    module _ (obeys : i .write ≡ none → length Line ≡ bytesFor Which → OfEffect (obeyed s Which Line (i .drives) (i .index)))
+    module _ (obeys : i .write ≡ none → length Line ≡ bytesFor Which → OfEffect (obeyed (i .setting) s Which Line (i .drives) (i .index)))
         (writes : (w : Writing) → OfEffect (written s w (named (w .c1) (i .drives)))) where
-      of-command : (v : Bool) → i .write ≡ none → eqb (length Line) (bytesFor Which) ≡ v → OfEffect (commandIf v s Which Line (i .drives) (i .index))
+      of-command : (v : Bool) → i .write ≡ none → eqb (length Line) (bytesFor Which) ≡ v → OfEffect (commandIf v (i .setting) s Which Line (i .drives) (i .index))
       unfolding commandIf
-      of-command true n e = of-clearing (obeyed s Which Line (i .drives) (i .index)) (obeys n (eqb-true _ _ e))
+      of-command true n e = of-clearing (obeyed (i .setting) s Which Line (i .drives) (i .index)) (obeys n (eqb-true _ _ e))
       of-command false n e = still
 
       of-data : (v : Bool) (w : Writing) → OfEffect (dataIf v s w (i .drives))
@@ -57,9 +57,9 @@ module _ (P : Response → Option Disk → Type 0) where
       unfolding byteFor commandByte dataByte
       of-byte none n =
           let v : Bool = eqb (length Line) (bytesFor Which) in
-          of-sends (Add b) (commandIf v s Which Line (i .drives) (i .index)) (of-command v n refl)
+          of-sends (Add b) (commandIf v (i .setting) s Which Line (i .drives) (i .index)) (of-command v n refl)
       of-byte (some w) n =
-          let v : Bool = eqb (length (holding b w .held)) (sizeOf (w .id .n)) in
+          let v : Bool = eqb (length (holding b w .held)) (wholeOf (w .goal)) in
           of-sends (Hold b) (dataIf v s (holding b w) (i .drives)) (of-data v (holding b w))
 
       pub of-this : OfSent (sent s i b)
@@ -67,6 +67,6 @@ module _ (P : Response → Option Disk → Type 0) where
       of-this = of-byte (i .write) refl
 
   -- of every command and every write
-  pub of-sent : (s : Rooms) (i : Inside) → P Stay none → ((k : Command) (l : List ℕ) → OfEffect (obeyed s k l (i .drives) (i .index)))
+  pub of-sent : (s : Rooms) (i : Inside) → P Stay none → ((k : Command) (l : List ℕ) → OfEffect (obeyed (i .setting) s k l (i .drives) (i .index)))
       → ((w : Writing) → OfEffect (written s w (named (w .c1) (i .drives)))) → (b : ℕ) → OfSent (sent s i b)
   of-sent s i still obeys writes b = of-this s i b still (λ n e. obeys _ _) writes

@@ -14,9 +14,9 @@ use Rattle.buffer.proofs.Overs.{over-front}
 use Rattle.buffer.specs.Over.{over}
 use Rattle.fields.specs.Refusals.{Result, refused, good, need, after}
 use Rattle.fields.specs.Capacities.{mostHeld}
-use Rattle.fields.specs.Model.{sizeOf, Sector, Disk, byteCount}
+use Rattle.fields.specs.Model.{Sector, Disk, byteCount}
+use Rattle.fields.specs.declared.id.SectorId.{SectorId}
 use Rattle.fields.specs.declared.refusal.Refusal.the-variants.{BadController, NoRoom}
-use Rattle.fields.proofs.Sizes.{size-most}
 use Rattle.fields.proofs.Tests.{never}
 use Rattle.store.specs.Find.{Found, nothing, found}
 use Rattle.store.specs.Search.{sectorAt, matchAt}
@@ -30,23 +30,27 @@ use Rattle.codes.specs.declared.command.Command.{Command}
 use Rattle.codes.specs.declared.command.Command.the-variants.{Specify, SenseDrive, Recalibrate, SenseInterrupt, SeekTo, Version, ReadData, ReadDeleted, WriteData, ReadId, FormatTrack, Unserved, Invalid}
 use Rattle.registers.specs.declared.regs.Regs.{Regs}
 use Rattle.registers.specs.declared.regs.Pending.{Pending}
+use Rattle.registers.specs.declared.regs.Setting.{Setting}
+use Rattle.registers.specs.declared.regs.Shape.{Shape}
 use Rattle.registers.specs.declared.regs.Seek.{Seek}
 use Rattle.registers.specs.declared.regs.Seek.the-variants.{Idle, Running, Done}
-use Rattle.registers.specs.Boxes.{Rooms, Slot, Holds, Drives, Writing, Inside, fitted, namedIf, named, seven, silent, serves, withCommand, withWrite, withSlot, holdingIn}
+use Rattle.registers.specs.Boxes.{Rooms, Slot, Holds, Drives, Goal, IntoSector, IntoTrack, wholeOf, Writing, Inside, fitted, namedIf, named, silent, serves}
+use Rattle.registers.specs.Boxes.{withCommand, withWrite, withSlot, holdingIn}
 use Rattle.registers.specs.Boxes.{Taking, Add, Hold, Change, Clear, MoveTo, Turn, Start, Finish, Response, Stay, Reply, ReplyIfNone, Seeking, Interrupt, Serve, Effect, Sent}
 use Rattle.registers.specs.Boxes.{taken, changed, allChanged, putIn, withReply, ifNone, interrupted, responded}
 use Rattle.codes.specs.Table.{commandOf, bytesFor}
-use Rattle.registers.specs.View.{roomsOf, slotIf, slotOf, drivesOf, namedIn, writingOf, writingIf, insideOf, frontOf, worldOf, impossible, impossibleIn}
+use Rattle.registers.specs.View.{roomsOf, slotIf, slotOf, drivesOf, namedIn, goalOf, writingOf, writingIf, insideOf, frontOf, worldOf, impossible, impossibleIn}
 use Rattle.registers.specs.declared.regs.Flag.the-variants as flag
 use Rattle.registers.specs.Calls.{diskIn}
-use Rattle.registers.specs.Settle.{declined, replied, regsTaken, heldTaken, regsChanged, regsAll, ifUnread, interruptedBy, regsResponded, regsOf}
-use Rattle.registers.proofs.Numbers.{possible, possible-in, count-few, taken-few}
-use Rattle.codes.specs.Second.{u, headOf}
-use Rattle.commands.specs.Commands.{byte, idOf, ready, whenReady, puts, seekTo, readData, writeData, readId, writeReply, saveAt, written, formatOf, formatTrack, obeyed}
+use Rattle.registers.specs.Settle.{declined, replied, pendingWith, regsTaken, heldTaken, regsChanged, regsAll, ifUnread, interruptedBy, regsResponded, regsOf}
+use Rattle.registers.proofs.Numbers.{possible, possible-in, count-few, whole-most, goal-few, taken-few}
+use Rattle.codes.specs.Second.{headOf}
+use Rattle.commands.specs.Commands.{byte, idOf, ready, whenReady, does, puts, seekTo, invalid, readData, writeData, readId, writeReply, saveAt, writtenSector}
+use Rattle.commands.specs.Commands.{trackAs, formatReply, laysTrack, formatAtOnce, hasPhase, formatIf, formatTrack, writtenTrack, writtenInto, written, obeyed}
 use Rattle.sending.specs.Machine.{sends, commandIf, commandByte, dataIf, dataByte, sent, done, writePort, reported, reportOf}
 use Rattle.commands.specs.Lent.{tableWith, dataWith, transferWith, left, leftOf, Sees}
 use Rattle.sending.specs.Calls.{dataWrite}
-use Rattle.commands.proofs.Runs.{Unput, quiet-seek, quiet-id, quiet-write, unput-read}
+use Rattle.commands.proofs.Runs.{Unput, quiet-seek, quiet-invalid, quiet-id, quiet-write, unput-read}
 use Rattle.sending.proofs.Sends.{wrong-length, wrong-numbers, write-wrong, sent-right, sent-data, sent-command}
 use Rattle.sending.proofs.Every.{OfEffect, OfSent, of-sent}
 
@@ -61,7 +65,7 @@ more : (l : List ℕ) (i b : ℕ) → i < length l → take (i + 1) (set l i b) 
 more l i b g = rw add-one (take-suc-set l i b g)
 
 more-held : (f : Bool) (p : Pending) (h : List ℕ) (b : ℕ) → p .taken < length h
-    → writingIf f (record { on = f; c1 = p .c1; id = p .id; taken = p .taken + 1 }) (set h (p .taken) b) ≡ holdingIn b (writingIf f p h)
+    → writingIf f (pendingWith f (p .taken + 1) p) (set h (p .taken) b) ≡ holdingIn b (writingIf f p h)
 more-held true p h b g = ap (λ (l : List ℕ). some (writingOf p l)) (more h (p .taken) b g)
 more-held false p h b g = refl
 
@@ -75,7 +79,8 @@ unfolding insideOf changed
 seen-change Clear r h s = refl
 seen-change (MoveTo c) r h s = refl
 seen-change Turn r h s = refl
-seen-change (Start c1 id) r h s = refl
+seen-change (Start c1 (IntoSector id)) r h s = refl
+seen-change (Start c1 (IntoTrack y)) r h s = refl
 seen-change Finish r h s = refl
 
 seen-changes : (xs : List Change) (r : Regs) (h : List ℕ) (s : Slot) → insideOf (regsAll xs r) h s ≡ allChanged xs (insideOf r h s)
@@ -101,7 +106,7 @@ unfolding frontOf
 same-change Clear r = record { front = λ x. refl; flag = refl; few = λ h. h; long = λ h. h }
 same-change (MoveTo c) r = record { front = λ x. refl; flag = refl; few = λ h. h; long = λ h. h }
 same-change Turn r = record { front = λ x. refl; flag = refl; few = λ h. h; long = λ h. h }
-same-change (Start c1 id) r = record { front = λ x. refl; flag = refl; few = λ h. h; long = λ h. h }
+same-change (Start c1 g) r = record { front = λ x. refl; flag = refl; few = λ h. h; long = λ h. h }
 same-change Finish r = record { front = λ x. refl; flag = refl; few = λ h. h; long = λ h. h }
 
 same-then : (a b c : Regs) → Same a b → Same b c → Same a c
@@ -126,11 +131,11 @@ seen-reply : (bytes : List ℕ) (r : Regs) (x : List ℕ) → frontOf (replied b
 unfolding frontOf
 seen-reply bytes r x = ap (λ (l : List ℕ). withReply l (frontOf r x)) (read-back bytes (replicate (7 - length bytes) 0))
 
-seen-interrupt : (c : ℕ) (r : Regs) (x : List ℕ) (s : Seek) → frontOf (interruptedBy c r s) x ≡ interrupted c (frontOf r x) s
+seen-interrupt : (c : ℕ) (y : List ℕ) (r : Regs) (x : List ℕ) (s : Seek) → frontOf (interruptedBy c y r s) x ≡ interrupted c y (frontOf r x) s
 unfolding interruptedBy interrupted
-seen-interrupt c r x Idle = seen-reply (0x80 ∷ c ∷ []) r x
-seen-interrupt c r x Running = unfold frontOf in refl
-seen-interrupt c r x Done = seen-reply (0x80 ∷ c ∷ []) r x
+seen-interrupt c y r x Idle = seen-reply y r x
+seen-interrupt c y r x Running = unfold frontOf in refl
+seen-interrupt c y r x Done = seen-reply y r x
 
 -- a reply that is unread is kept
 if-some : (new l : List ℕ) (f t : ℕ) (k : List ℕ) → l ≡ slice f t k → f < t → t ≤ length k → ifNone new l ≡ l
@@ -162,7 +167,7 @@ seen-response Stay r x f l = refl
 seen-response (Reply bytes) r x f l = seen-reply bytes r x
 seen-response (ReplyIfNone bytes) r x f l = seen-if (ltb (r .place) (r .fill)) bytes r x f l refl
 seen-response Seeking r x f l = refl
-seen-response (Interrupt c) r x f l = seen-interrupt c r x (r .drive .seek)
+seen-response (Interrupt c y) r x f l = seen-interrupt c y r x (r .drive .seek)
 seen-response (Serve bytes reply) r x f l = seen-serve bytes reply r x
 
 -- what is done in front leaves the inside, and the flag of the disk
@@ -176,9 +181,9 @@ response-inside (ReplyIfNone bytes) r h slot = go (ltb (r .place) (r .fill))
     go true = unfold ifUnread in (refl, refl)
     go false = unfold ifUnread in (refl, refl)
 response-inside Seeking r h slot = (refl, refl)
-response-inside (Interrupt c) r h slot = go (r .drive .seek)
+response-inside (Interrupt c y) r h slot = go (r .drive .seek)
   where
-    go : (s : Seek) → (insideOf (interruptedBy c r s) h slot ≡ insideOf r h slot) × (interruptedBy c r s .drive .disk ≡ r .drive .disk)
+    go : (s : Seek) → (insideOf (interruptedBy c y r s) h slot ≡ insideOf r h slot) × (interruptedBy c y r s .drive .disk ≡ r .drive .disk)
     go Idle = unfold interruptedBy in (refl, refl)
     go Running = unfold interruptedBy in (refl, refl)
     go Done = unfold interruptedBy in (refl, refl)
@@ -224,35 +229,55 @@ module _ (r : Regs) (t d : List ℕ) where
       go true true h (refused why) w = tt
       go true true h (good y) w = q y h w
 
-  format-lays : (x l : List ℕ) → LaysE (formatTrack (roomsOf d x) l (namedIn (byte l 1) r t d))
-  unfolding formatTrack
-  format-lays x l = named-lays (byte l 1) _ _ tt (λ y h w. go y h w (fitting (roomOf d) (Set y)) refl)
+  -- a track that is laid
+  track-lays : (x : List ℕ) (xs : List Change) (c1 c : ℕ) (z : Shape) (ids : List SectorId) (y : Disk) → r .drive .disk ≡ true → diskOf t d ≡ good y
+      → LaysE (laysTrack (roomsOf d x) xs c1 c z ids y)
+  unfolding laysTrack
+  track-lays x xs c1 c z ids y h w = go (fitting (roomOf d) New) refl
     where
-      Set : Disk → Disk
-      Set y = let c : ℕ = namedIn (byte l 1) r t d .cylinder in setTrack (headOf (byte l 1)) c (formatOf l c) y
+      New : Disk
+      New = setTrack (headOf c1) c (trackAs c1 c z ids) y
 
-      go : (y : Disk) → r .drive .disk ≡ true → diskOf t d ≡ good y → (new : Result Disk) → fitting (roomOf d) (Set y) ≡ new
-          → LaysE (after new (λ z. puts silent [] z (seven (u (byte l 1)) 0 0 (record { c = 0; h = 0; r = 0; n = byte l 2 }))))
-      go y h w (refused why) e = tt
-      go y h w (good z) e = (h, format-accepted t d y w (Set y) z e)
+      go : (new : Result Disk) → fitting (roomOf d) New ≡ new → LaysE (after new (λ v. puts silent xs v (formatReply c1 (z .size))))
+      go (refused why) e = tt
+      go (good v) e = (h, format-accepted t d y w New v e)
 
-  written-lays : (x : List ℕ) (w : Writing) → LaysE (written (roomsOf d x) w (namedIn (w .c1) r t d))
-  unfolding written saveAt
-  written-lays x w = named-lays (w .c1) _ _ tt (λ y h e. go y h e (matchAt y (headOf (w .c1)) (namedIn (w .c1) r t d .cylinder) (w .id)) (sectorAt y (headOf (w .c1)) (namedIn (w .c1) r t d .cylinder) (w .id)))
+  format-lays : (x l : List ℕ) → LaysE (formatTrack (r .setting) (roomsOf d x) l (namedIn (byte l 1) r t d))
+  unfolding formatTrack formatAtOnce
+  format-lays x l = go (hasPhase (r .setting .machine) (byte l 3) (ready (namedIn (byte l 1) r t d .slot)))
     where
+      go : (v : Bool) → LaysE (formatIf v (roomsOf d x) l (namedIn (byte l 1) r t d))
+      go true = tt
+      go false = named-lays (byte l 1) _ _ tt (λ y h w. track-lays x [] (byte l 1) _ _ _ y h w)
+
+  sector-lays : (x : List ℕ) (c1 : ℕ) (id : SectorId) (held : List ℕ) → LaysE (writtenSector (roomsOf d x) c1 id held (namedIn c1 r t d))
+  unfolding writtenSector saveAt
+  sector-lays x c1 id held = named-lays c1 _ _ tt (λ y h e. go y h e (matchAt y (headOf c1) Cylinder id) (sectorAt y (headOf c1) Cylinder id))
+    where
+      Cylinder : ℕ
+      Cylinder = namedIn c1 r t d .cylinder
+
       New : Disk → Disk
-      New y = saved (headOf (w .c1)) (namedIn (w .c1) r t d .cylinder) (w .id) (w .held) y
+      New y = saved (headOf c1) Cylinder id held y
 
       put : (v : Bool) (m : Match) (y : Disk) → r .drive .disk ≡ true → diskOf t d ≡ good y → leb (byteCount (New y)) (roomOf d) ≡ v
-          → LaysE (need v NoRoom (puts (serves m) (Finish ∷ []) (New y) (writeReply w)))
-      put true m y h e q = (h, save-accepted t d y e (headOf (w .c1)) (namedIn (w .c1) r t d .cylinder) (w .id) (w .held) (leb-true _ _ q))
+          → LaysE (need v NoRoom (puts (serves m) (Finish ∷ []) (New y) (writeReply c1 id)))
+      put true m y h e q = (h, save-accepted t d y e (headOf c1) Cylinder id held (leb-true _ _ q))
       put false m y h e q = tt
 
-      go : (y : Disk) → r .drive .disk ≡ true → diskOf t d ≡ good y → (m : Match) (s : Found Sector) → LaysE (saveAt (roomsOf d x) w m (New y) s)
+      go : (y : Disk) → r .drive .disk ≡ true → diskOf t d ≡ good y → (m : Match) (s : Found Sector) → LaysE (saveAt (roomsOf d x) c1 id m (New y) s)
       go y h e m nothing = tt
       go y h e m (found k s) = put (leb (byteCount (New y)) (roomOf d)) m y h e refl
 
-  obeyed-lays : (x : List ℕ) (k : Command) (l : List ℕ) → LaysE (obeyed (roomsOf d x) k l (drivesOf r t d) (r .index))
+  written-lays : (x : List ℕ) (w : Writing) → LaysE (written (roomsOf d x) w (namedIn (w .c1) r t d))
+  unfolding writtenInto writtenTrack
+  written-lays x w = go (w .goal)
+    where
+      go : (g : Goal) → LaysE (writtenInto g (roomsOf d x) (w .c1) (w .held) (namedIn (w .c1) r t d))
+      go (IntoSector id) = sector-lays x (w .c1) id (w .held)
+      go (IntoTrack z) = named-lays (w .c1) _ _ tt (λ y h e. track-lays x (Finish ∷ []) (w .c1) _ z _ y h e)
+
+  obeyed-lays : (x : List ℕ) (k : Command) (l : List ℕ) → LaysE (obeyed (r .setting) (roomsOf d x) k l (drivesOf r t d) (r .index))
   unfolding obeyed
   obeyed-lays x Specify l = tt
   obeyed-lays x SenseDrive l = tt
@@ -266,7 +291,7 @@ module _ (r : Regs) (t d : List ℕ) where
   obeyed-lays x ReadId l = unput-lays (readId (byte l 1) (r .index) (namedIn (byte l 1) r t d)) (quiet-id _ _ _ .0)
   obeyed-lays x FormatTrack l = format-lays x l
   obeyed-lays x Unserved l = tt
-  obeyed-lays x Invalid l = tt
+  obeyed-lays x Invalid l = unput-lays (does [] (invalid (r .setting .machine))) (quiet-invalid (r .setting .machine) .0)
 
   sent-lays : (x h : List ℕ) (b : ℕ) → LaysS (sent (roomsOf d x) (insideOf r h (slotOf r t d)) b)
   unfolding insideOf
@@ -283,15 +308,16 @@ sends-takes : (k : Taking) (e : Result Effect) → Takes k (sends k e)
 sends-takes k (refused why) = tt
 sends-takes k (good e) = refl
 
-command-takes : (s : Rooms) (b : ℕ) (l : List ℕ) (d : Drives) (i : ℕ) → Takes (Add b) (commandByte s b l d i)
+command-takes : (x : Setting) (s : Rooms) (b : ℕ) (l : List ℕ) (d : Drives) (i : ℕ) → Takes (Add b) (commandByte x s b l d i)
 unfolding commandByte
-command-takes s b l d i = sends-takes (Add b) (commandIf (eqb (length l) (bytesFor (commandOf (byte l 0)))) s (commandOf (byte l 0)) l d i)
+command-takes x s b l d i = sends-takes (Add b) (commandIf (eqb (length l) (bytesFor (commandOf (byte l 0)))) x s (commandOf (byte l 0)) l d i)
 
 data-takes : (s : Rooms) (b : ℕ) (w : Writing) (d : Drives) → Takes (Hold b) (dataByte s b w d)
 unfolding dataByte
-data-takes s b w d = sends-takes (Hold b) (dataIf (eqb (length (w .held)) (sizeOf (w .id .n))) s w d)
+data-takes s b w d = sends-takes (Hold b) (dataIf (eqb (length (w .held)) (wholeOf (w .goal))) s w d)
 
-module _ (r : Regs) (b : ℕ) (h t d x : List ℕ) (ok : impossibleIn x r ≡ false) (nine : length (r .command) ≡ 9) (seven : length (r .reply) ≡ 7) (held : length h ≡ mostHeld) where
+module _ (r : Regs) (b : ℕ) (h t d x : List ℕ) (ok : impossibleIn x r ≡ false) (nine : length (r .command) ≡ 9) (seven : length (r .reply) ≡ 7) (held : length h ≡ mostHeld)
+    (fits : r .write .shape .sectors < 256) where
   seen-byte : (e : Result Sent) (k : Taking) → Fits k r h → Takes k e → LaysS r t d e → Sees r h t d x (leftOf e r h t d x) (reported e) (after e (λ s. good (done (worldOf r h t d x) s)))
   unfolding leftOf regsOf done insideOf
   seen-byte (refused why) k g q l = refl
@@ -317,11 +343,11 @@ module _ (r : Regs) (b : ℕ) (h t d x : List ℕ) (ok : impossibleIn x r ≡ fa
   seen-sent : (f : Bool) → r .write .on ≡ f → Sees r h t d x (leftOf (sent (roomsOf d x) (insideOf r h (slotOf r t d)) b) r h t d x) (reportOf (roomsOf d x) (worldOf r h t d x) b) (writePort (roomsOf d x) (worldOf r h t d x) b)
   unfolding writePort reportOf
   seen-sent true e =
-      let g : r .write .taken < length h = omega (arith, taken-few (r .write) (possible r (possible-in x r ok) .write-in) e, size-most (r .write .id .n)) in
+      let g : r .write .taken < length h = omega (arith, taken-few (r .setting) (r .write) (possible r (possible-in x r ok) .write-in) e, whole-most (goalOf (r .write)) (goal-few (r .write) fits)) in
       seen-byte (sent (roomsOf d x) (insideOf r h (slotOf r t d)) b) (Hold b) g (subst (Takes (Hold b)) (sent-data r b h t d x e) (data-takes _ b _ _)) (sent-lays r t d x h b)
   seen-sent false e =
       let g : r .count < length (r .command) = omega (arith, count-few r (possible-in x r ok)) in
-      seen-byte (sent (roomsOf d x) (insideOf r h (slotOf r t d)) b) (Add b) g (subst (Takes (Add b)) (sent-command r b h t d x e) (command-takes _ b _ _ _)) (sent-lays r t d x h b)
+      seen-byte (sent (roomsOf d x) (insideOf r h (slotOf r t d)) b) (Add b) g (subst (Takes (Add b)) (sent-command r b h t d x e) (command-takes _ _ b _ _ _)) (sent-lays r t d x h b)
 
   -- a byte sent leaves, and tells, what the machine's step says of the boxes seen
   pub write-seen : Sees r h t d x (dataWrite r b h t d x) (reportOf (roomsOf d x) (worldOf r h t d x) b) (writePort (roomsOf d x) (worldOf r h t d x) b)

@@ -10,7 +10,6 @@ use lib.Seq.{getD-take, take-suc-set, set-set, set-getD, take-all}
 use lib.Dec.{eqb}
 use borrow.Author.Tests.{eq-eqb, ne-eqb}
 use Rattle.fields.specs.Refusals.{Result, refused, good}
-use Rattle.fields.specs.Model.{sizeOf}
 use Rattle.fields.specs.declared.refusal.Refusal.{Refusal}
 use Rattle.fields.specs.declared.refusal.Refusal.the-variants.{BadController}
 use Rattle.fields.proofs.Tests.{never}
@@ -22,13 +21,14 @@ use Rattle.registers.specs.declared.regs.Receipt.{Receipt}
 use Rattle.registers.specs.declared.regs.Receipt.the-variants as receipt
 use Rattle.registers.specs.declared.regs.Written.{Written}
 use Rattle.registers.specs.declared.regs.Report.{Report}
-use Rattle.registers.specs.Boxes.{silent, Rooms, Drives, Inside, Add, Hold, Clear, Effect, Sent}
+use Rattle.registers.specs.declared.regs.Setting.{Setting}
+use Rattle.registers.specs.Boxes.{silent, Rooms, Drives, wholeOf, Inside, Add, Hold, Clear, Effect, Sent}
 use Rattle.codes.specs.Table.{commandOf, bytesFor}
-use Rattle.commands.specs.Commands.{byte, formatTrack, obeyed}
+use Rattle.commands.specs.Commands.{byte, formatAtOnce, formatTrack, obeyed}
 use Rattle.sending.specs.Machine.{sends, clearing, commandIf, commandByte, dataIf, dataByte, byteFor, sent}
-use Rattle.registers.specs.View.{roomsOf, slotOf, drivesOf, namedIn, writingOf, writingIf, insideOf, impossibleIn}
+use Rattle.registers.specs.View.{roomsOf, slotOf, drivesOf, namedIn, goalIf, goalOf, writingOf, writingIf, insideOf, impossibleIn}
 use Rattle.registers.specs.Settle.{accepted, declined, regsTaken, regsChanged, regsAll, regsResponded, regsOf, keptIf, kept}
-use Rattle.commands.specs.Lent.{tableWith, dataWith, tableAfter, dataAfter, Stores, Ran, ran, ranOf, writtenHere, ranHere, Left, left, leftOf}
+use Rattle.commands.specs.Lent.{tableWith, dataWith, tableAfter, dataAfter, Stores, Ran, ran, ranOf, intoHere, writtenHere, ranHere, Left, left, leftOf}
 use Rattle.sending.specs.Calls.{commandHere, dataHere, impossibleWith, sentTo, dataWrite}
 use Rattle.commands.proofs.Runs.{still-response, Still, still-written}
 use Rattle.fields.specs.Capacities.{mostHeld}
@@ -36,23 +36,23 @@ use Rattle.fields.specs.Capacities.{mostHeld}
 -- ---- a byte of a command
 
 -- of the array only the command's bytes count
-front-same : (s : Rooms) (k : Command) (l : List ℕ) (d : Drives) (index : ℕ) → length l ≡ 9
-    → obeyed s k l d index ≡ obeyed s k (take (bytesFor k) l) d index
-unfolding obeyed formatTrack
-front-same s Specify l d i h = refl
-front-same s SenseDrive l d i h = rw (getD-take 2 l 1 0 (omega arith))
-front-same s Recalibrate l d i h = rw (getD-take 2 l 1 0 (omega arith))
-front-same s SenseInterrupt l d i h = refl
-front-same s SeekTo l d i h = rw (getD-take 3 l 1 0 (omega arith), getD-take 3 l 2 0 (omega arith))
-front-same s Version l d i h = refl
-front-same s ReadData l d i h = rw (take-all 9 l (omega arith))
-front-same s ReadDeleted l d i h = rw (take-all 9 l (omega arith))
-front-same s WriteData l d i h = rw (take-all 9 l (omega arith))
-front-same s ReadId l d i h = rw (getD-take 2 l 1 0 (omega arith))
-front-same s FormatTrack l d i h =
+front-same : (y : Setting) (s : Rooms) (k : Command) (l : List ℕ) (d : Drives) (index : ℕ) → length l ≡ 9
+    → obeyed y s k l d index ≡ obeyed y s k (take (bytesFor k) l) d index
+unfolding obeyed formatTrack formatAtOnce
+front-same y s Specify l d i h = refl
+front-same y s SenseDrive l d i h = rw (getD-take 2 l 1 0 (omega arith))
+front-same y s Recalibrate l d i h = rw (getD-take 2 l 1 0 (omega arith))
+front-same y s SenseInterrupt l d i h = refl
+front-same y s SeekTo l d i h = rw (getD-take 3 l 1 0 (omega arith), getD-take 3 l 2 0 (omega arith))
+front-same y s Version l d i h = refl
+front-same y s ReadData l d i h = rw (take-all 9 l (omega arith))
+front-same y s ReadDeleted l d i h = rw (take-all 9 l (omega arith))
+front-same y s WriteData l d i h = rw (take-all 9 l (omega arith))
+front-same y s ReadId l d i h = rw (getD-take 2 l 1 0 (omega arith))
+front-same y s FormatTrack l d i h =
     rw (getD-take 6 l 1 0 (omega arith), getD-take 6 l 2 0 (omega arith), getD-take 6 l 3 0 (omega arith), getD-take 6 l 4 0 (omega arith), getD-take 6 l 5 0 (omega arith))
-front-same s Unserved l d i h = refl
-front-same s Invalid l d i h = refl
+front-same y s Unserved l d i h = refl
+front-same y s Invalid l d i h = refl
 
 module _ (r : Regs) (b : ℕ) (h t d x : List ℕ) where
   -- a command that is obeyed, and where it refuses the registers as they came
@@ -94,7 +94,7 @@ module _ (r : Regs) (b : ℕ) (h t d x : List ℕ) where
           rw (command-is, e)
 
       abbrev Obeyed : List ℕ → Result Effect
-      Obeyed l = obeyed (roomsOf d x) k l (drivesOf r t d) (r .index)
+      Obeyed l = obeyed (r .setting) (roomsOf d x) k l (drivesOf r t d) (r .index)
 
       command-whole : r .count + 1 ≡ n → (a : Written) (t′ d′ x′ : List ℕ)
           → ran a t′ d′ x′ ≡ ranOf (Obeyed Array) (regsChanged Clear (regsTaken (Add b) r)) t d x
@@ -104,7 +104,7 @@ module _ (r : Regs) (b : ℕ) (h t d x : List ℕ) where
           let m : r .count + 1 ≡ bytesFor k = q ∙ en in
           let f : eqb (length All) (bytesFor k) ≡ true = eq-eqb _ _ (all-length ∙ m) in
           let g : Obeyed Array ≡ Obeyed All =
-          front-same (roomsOf d x) k Array (drivesOf r t d) (r .index) array-long
+          front-same (r .setting) (roomsOf d x) k Array (drivesOf r t d) (r .index) array-long
           ∙ ap (λ (j : ℕ). Obeyed (take j Array)) (sym m)
           ∙ ap Obeyed (sym all-list) in
           rw (command-is, f)
@@ -137,11 +137,11 @@ module _ (r : Regs) (b : ℕ) (h t d x : List ℕ) (room : r .write .taken < len
   whole-is : take (r .write .taken + 1) Held ≡ Whole
   whole-is = rw add-one (take-suc-set h (r .write .taken) b room)
 
-  pub data-part : (n : ℕ) (a : Written) → n ≡ sizeOf (r .write .id .n) → (r .write .taken + 1 ≡ n → ⊥) → a ≡ accepted silent (regsTaken (Hold b) r)
+  pub data-part : (n : ℕ) (a : Written) → n ≡ wholeOf (goalOf (r .write)) → (r .write .taken + 1 ≡ n → ⊥) → a ≡ accepted silent (regsTaken (Hold b) r)
       → left a Held t d x ≡ leftOf (dataHere r b h t d x) r h t d x
   unfolding dataByte dataIf leftOf regsOf regsAll regsResponded
   data-part n a en ne ea =
-      let e : eqb (length Whole) (sizeOf (r .write .id .n)) ≡ false = ne-eqb _ _ (λ q. ne (sym whole-length ∙ q ∙ sym en)) in
+      let e : eqb (length Whole) (wholeOf (goalOf (r .write))) ≡ false = ne-eqb _ _ (λ q. ne (sym whole-length ∙ q ∙ sym en)) in
       rw (e, ea)
 
   -- the end of a write, and where it is refused the held byte that was there
@@ -157,7 +157,7 @@ module _ (r : Regs) (b : ℕ) (h t d x : List ℕ) (room : r .write .taken < len
   back-is (good e) q =
       ap (λ (y : List ℕ). left (regsOf (good e) (regsTaken (Hold b) r)) Held (tableWith (e .put) t) (dataWith (e .put) d) y) (still-response (e .response) x q)
 
-  module _ (n : ℕ) (a : Written) (t′ d′ : List ℕ) (en : n ≡ sizeOf (r .write .id .n)) (eq : r .write .taken + 1 ≡ n) where
+  module _ (n : ℕ) (a : Written) (t′ d′ : List ℕ) (en : n ≡ wholeOf (goalOf (r .write))) (eq : r .write .taken + 1 ≡ n) where
     -- what the end of a write promises of some registers
     abbrev Ended : List ℕ → Regs → Type 0
     Ended l y = Stores (writtenHere l y t d x) y t d a t′ d′
@@ -166,12 +166,12 @@ module _ (r : Regs) (b : ℕ) (h t d x : List ℕ) (room : r .write .taken < len
         → left (kept r a) (heldBack (a .receipt)) t′ d′ x ≡ leftOf (dataHere r b h t d x) r h t d x
     unfolding dataByte dataIf
     data-end l el p =
-        let f : eqb (length Whole) (sizeOf (r .write .id .n)) ≡ true = eq-eqb _ _ (whole-length ∙ eq ∙ en) in
+        let f : eqb (length Whole) (wholeOf (goalOf (r .write))) ≡ true = eq-eqb _ _ (whole-length ∙ eq ∙ en) in
         let q = subst (λ (z : List ℕ). Ended z (regsTaken (Hold b) r)) el p in
         let e : Result Effect = writtenHere Whole r t d x in
         rw f
         ((λ i. left (kept r (q .0 i)) (heldBack (q .0 i .receipt)) (q .1 .0 i) (q .1 .1 i) x)
-        ∙ back-is e (still-written (roomsOf d x) (writingOf (r .write) Whole) (namedIn (r .write .c1) r t d)))
+        ∙ back-is e (still-written (goalOf (r .write)) (roomsOf d x) (r .write .c1) Whole (namedIn (r .write .c1) r t d)))
 
     module _ (taken : Regs) (l : List ℕ) (et : taken ≡ regsTaken (Hold b) r) (el : l ≡ take (r .write .taken + 1) Held) where
       pub data-good : (told : Report) → a .receipt ≡ receipt.Good told → Ended l taken → left a Held t′ d′ x ≡ leftOf (dataHere r b h t d x) r h t d x
@@ -185,6 +185,13 @@ module _ (r : Regs) (b : ℕ) (h t d x : List ℕ) (room : r .write .taken < len
           ap (λ (y : Written). left y (set Held (r .write .taken) (getD h (r .write .taken) 0)) t′ d′ x) g
           ∙ sym (ap (λ (y : Receipt). left (keptIf y a r) (heldBack y) t′ d′ x) f)
           ∙ data-end l (el ∙ whole-is) (subst (Ended l) et q)
+
+-- ---- the end of a write, by what is written
+
+pub ended-into : (r : Regs) (held t d x : List ℕ) (v : Bool) → r .write .track ≡ v → (a : Written) (t′ d′ : List ℕ)
+    → Stores (intoHere (goalIf v (r .write .id) (r .write .shape)) held r t d x) r t d a t′ d′ → Stores (writtenHere held r t d x) r t d a t′ d′
+ended-into r held t d x v e a t′ d′ p =
+    subst (λ (f : Bool). Stores (intoHere (goalIf f (r .write .id) (r .write .shape)) held r t d x) r t d a t′ d′) (sym e) p
 
 -- ---- the call
 
@@ -219,7 +226,7 @@ module _ (r : Regs) (b : ℕ) (h t d x : List ℕ) where
   for-write false p s i q = never (cc)
 
   for-command : (f : Bool) (p : Pending) (s : Rooms) (i : Inside) → f ≡ false
-      → commandByte s b (i .command ++ (b ∷ [])) (i .drives) (i .index) ≡ byteFor s i b (writingIf f p h)
+      → commandByte (i .setting) s b (i .command ++ (b ∷ [])) (i .drives) (i .index) ≡ byteFor s i b (writingIf f p h)
   unfolding byteFor
   for-command false p s i q = refl
   for-command true p s i q = never (cc)

@@ -28,9 +28,9 @@ use Rattle.registers.specs.Ports.{setMotor, changeDisk}
 use Rattle.registers.specs.View.{roomsOf, slotOf, insideOf, frontOf, impossible}
 use Rattle.registers.specs.Calls.{switchedIf, motorSet, diskSet}
 use Rattle.registers.specs.Settle.{regsWithMotor, regsWithDrive}
-use Rattle.commands.specs.Commands.{byte, idOf, tells, does, notReady, whenReady, seekTo, servedAs, readData, writeData, written, readId, formatTrack, obeyed}
+use Rattle.commands.specs.Commands.{byte, idOf, tells, does, notReady, whenReady, seekTo, invalid, servedAs, readData, writeData, written, readId, formatTrack, obeyed}
 use Rattle.commands.specs.Lent.{transferWith, left, leftOf}
-use Rattle.commands.proofs.Runs.{StillS, Still, quiet-seek, quiet-id, quiet-write, still-format, still-written}
+use Rattle.commands.proofs.Runs.{StillS, Still, quiet-seek, quiet-invalid, quiet-id, quiet-write, still-format, still-written}
 use Rattle.sending.specs.Reads.{EndsRead, Refilled}
 use Rattle.sending.specs.Machine.{sent, done, writePort}
 use Rattle.sending.specs.Calls.{impossibleWith, sentTo, dataWrite}
@@ -43,7 +43,7 @@ module _ (s : Rooms) (i : Inside) (b : ℕ) where
   Serves (Reply x) = Unit {0}
   Serves (ReplyIfNone x) = Unit {0}
   Serves Seeking = Unit {0}
-  Serves (Interrupt c) = Unit {0}
+  Serves (Interrupt c y) = Unit {0}
   Serves (Serve bytes reply) = EndsRead i b bytes
 
   abbrev ServesE : Result Effect → Type 0
@@ -54,7 +54,7 @@ module _ (s : Rooms) (i : Inside) (b : ℕ) where
   still-serves (Reply x) q = tt
   still-serves (ReplyIfNone x) q = tt
   still-serves Seeking q = tt
-  still-serves (Interrupt c) q = tt
+  still-serves (Interrupt c y) q = tt
   still-serves (Serve bytes reply) q = absurd q
 
   none-served : (e : Result Effect) → Still e → ServesE e
@@ -93,7 +93,7 @@ module _ (s : Rooms) (i : Inside) (b : ℕ) where
         in-slot (Holds (refused why)) d e q = tt
         in-slot (Holds (good y)) d e q = served y d (First y) (Read y) refl
 
-    command-serves : (k : Command) → commandOf (byte Line 0) ≡ k → ServesE (obeyed s k Line (i .drives) (i .index))
+    command-serves : (k : Command) → commandOf (byte Line 0) ≡ k → ServesE (obeyed (i .setting) s k Line (i .drives) (i .index))
     unfolding obeyed
     command-serves Specify e = tt
     command-serves SenseDrive e = tt
@@ -105,14 +105,14 @@ module _ (s : Rooms) (i : Inside) (b : ℕ) where
     command-serves ReadDeleted e = read-serves true (inr e)
     command-serves WriteData e = none-served (writeData (byte Line 1) (idOf Line) Drive) (quiet-write (byte Line 1) (idOf Line) Drive .1)
     command-serves ReadId e = none-served (readId (byte Line 1) (i .index) Drive) (quiet-id (byte Line 1) (i .index) Drive .1)
-    command-serves FormatTrack e = none-served (formatTrack s Line Drive) (still-format s Line Drive)
+    command-serves FormatTrack e = none-served (formatTrack (i .setting) s Line Drive) (still-format (i .setting) s Line Drive)
     command-serves Unserved e = tt
-    command-serves Invalid e = tt
+    command-serves Invalid e = none-served (does [] (invalid (i .setting .machine))) (quiet-invalid (i .setting .machine) .1)
 
   sent-serves : OfSent (λ response put. Serves response) (sent s i b)
   sent-serves =
       of-this (λ response put. Serves response) s i b tt (λ n w. command-serves n w (commandOf (byte Line 0)) refl)
-      (λ w. none-served (written s w (named (w .c1) (i .drives))) (still-written s w (named (w .c1) (i .drives))))
+      (λ w. none-served (written s w (named (w .c1) (i .drives))) (still-written (w .goal) s (w .c1) (w .held) (named (w .c1) (i .drives))))
 
   -- ---- on the machine
 
@@ -122,9 +122,9 @@ module _ (s : Rooms) (i : Inside) (b : ℕ) where
   front-stays (Reply x) f q = inl refl
   front-stays (ReplyIfNone x) f q = inl refl
   front-stays Seeking f q = inl refl
-  front-stays (Interrupt c) f q = inl (by (f .seek))
+  front-stays (Interrupt c y) f q = inl (by (f .seek))
     where
-      by : (z : Seek) → interrupted c f z .unread ≡ f .unread
+      by : (z : Seek) → interrupted c y f z .unread ≡ f .unread
       by Idle = refl
       by Running = refl
       by Done = refl
@@ -165,7 +165,7 @@ module _ (r : Regs) (b : ℕ) (h t d x : List ℕ) where
   buffer-stays (Reply z) q = inl refl
   buffer-stays (ReplyIfNone z) q = inl refl
   buffer-stays Seeking q = inl refl
-  buffer-stays (Interrupt c) q = inl refl
+  buffer-stays (Interrupt c y) q = inl refl
   buffer-stays (Serve bytes reply) q = inr record { bytes = bytes; ends = q; laid = refl }
 
   -- A byte sent leaves the transfer buffer byte for byte as it came, refused or not, or it ends a read that finds a sector.

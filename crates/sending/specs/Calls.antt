@@ -15,7 +15,7 @@ use Rattle.commands.specs.Lent.{Left, leftOf}
 
 -- what the machine says of a byte of a command, and of a byte of a write, by the boxes that are seen
 abbrev pub commandHere : Regs → ℕ → List ℕ → List ℕ → List ℕ → Result Sent
-commandHere r b t d x = commandByte (roomsOf d x) b (take (r .count) (r .command) ++ (b ∷ [])) (drivesOf r t d) (r .index)
+commandHere r b t d x = commandByte (r .setting) (roomsOf d x) b (take (r .count) (r .command) ++ (b ∷ [])) (drivesOf r t d) (r .index)
 
 abbrev pub dataHere : Regs → ℕ → List ℕ → List ℕ → List ℕ → List ℕ → Result Sent
 dataHere r b h t d x = dataByte (roomsOf d x) b (writingOf (r .write) (take (r .write .taken) h ++ (b ∷ []))) (drivesOf r t d)

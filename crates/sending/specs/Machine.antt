@@ -6,10 +6,10 @@ use mathlib.Core.Option.{Option, none, some}
 use lib.ListN.{length}
 use lib.Dec.{eqb}
 use Rattle.fields.specs.Refusals.{Result, refused, good, after}
-use Rattle.fields.specs.Model.{sizeOf}
-use Rattle.registers.specs.Boxes.{Rooms, Drives, Writing, Inside, World, named, holding, taken, allChanged, putIn, responded}
+use Rattle.registers.specs.Boxes.{Rooms, Drives, wholeOf, Writing, Inside, World, named, holding, taken, allChanged, putIn, responded}
 use Rattle.registers.specs.Boxes.{Taking, Add, Hold, Clear, Stay, Effect, Sent, silent}
 use Rattle.registers.specs.declared.regs.Report.{Report}
+use Rattle.registers.specs.declared.regs.Setting.{Setting}
 use Rattle.codes.specs.declared.command.Command.{Command}
 use Rattle.codes.specs.Table.{commandOf, bytesFor}
 use Rattle.commands.specs.Commands.{byte, does, obeyed, written}
@@ -26,14 +26,14 @@ clearing (refused why) = refused why
 clearing (good e) = good record { changes = Clear ∷ e .changes; response = e .response; put = e .put; report = e .report }
 
 -- a command whose last byte has come is obeyed
-unfoldable pub commandIf : Bool → Rooms → Command → List ℕ → Drives → ℕ → Result Effect
-commandIf true s which command d index = clearing (obeyed s which command d index)
-commandIf false s which command d index = does [] Stay
+unfoldable pub commandIf : Bool → Setting → Rooms → Command → List ℕ → Drives → ℕ → Result Effect
+commandIf true x s which command d index = clearing (obeyed x s which command d index)
+commandIf false x s which command d index = does [] Stay
 
-unfoldable pub commandByte : Rooms → ℕ → List ℕ → Drives → ℕ → Result Sent
-commandByte s b command d index =
+unfoldable pub commandByte : Setting → Rooms → ℕ → List ℕ → Drives → ℕ → Result Sent
+commandByte x s b command d index =
     let which : Command = commandOf (byte command 0) in
-    sends (Add b) (commandIf (eqb (length command) (bytesFor which)) s which command d index)
+    sends (Add b) (commandIf (eqb (length command) (bytesFor which)) x s which command d index)
 
 -- a write of which the last byte has come is done
 unfoldable pub dataIf : Bool → Rooms → Writing → Drives → Result Effect
@@ -41,11 +41,11 @@ dataIf true s w d = written s w (named (w .c1) d)
 dataIf false s w d = does [] Stay
 
 unfoldable pub dataByte : Rooms → ℕ → Writing → Drives → Result Sent
-dataByte s b w d = sends (Hold b) (dataIf (eqb (length (w .held)) (sizeOf (w .id .n))) s w d)
+dataByte s b w d = sends (Hold b) (dataIf (eqb (length (w .held)) (wholeOf (w .goal))) s w d)
 
 -- a byte is one of a write in progress, or else of a command
 unfoldable pub byteFor : Rooms → Inside → ℕ → Option Writing → Result Sent
-byteFor s i b none = commandByte s b (i .command ++ (b ∷ [])) (i .drives) (i .index)
+byteFor s i b none = commandByte (i .setting) s b (i .command ++ (b ∷ [])) (i .drives) (i .index)
 byteFor s i b (some w) = dataByte s b (holding b w) (i .drives)
 
 unfoldable pub sent : Rooms → Inside → ℕ → Result Sent

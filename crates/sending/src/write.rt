@@ -3,6 +3,7 @@ use codes::St0;
 use codes::bytes_for;
 use codes::command_of;
 use codes::head_of;
+use commands::finish_format;
 use commands::run_cmd;
 use disk::Saved;
 use fields::HELD;
@@ -16,14 +17,15 @@ ghost use mathlib.Core.List.{List};
 ghost use Prim.Native.Nat.{ℕ, _<_, _≤_};
 ghost use lib.ListN.{length};
 ghost use Rattle.fields.specs.Capacities.{mostHeld};
-ghost use Rattle.fields.specs.Model.{sizeOf};
-ghost use Rattle.commands.specs.Lent.{Stores, writtenHere, left, leftOf};
+ghost use Rattle.registers.specs.Boxes.{IntoSector, wholeOf};
+ghost use Rattle.registers.specs.View.{goalOf};
+ghost use Rattle.commands.specs.Lent.{Stores, intoHere, writtenHere, left, leftOf};
 ghost use Rattle.sending.specs.Calls.{commandHere, dataHere, dataWrite};
 
-// The last byte of a write is held: the reply, and the sector in the store.
-fn finish_write(regs: Regs, held: &[u8], table: &mut [u8], bytes: &mut [u8]) -> Written
+// The last byte of a sector is held: the reply, and the sector in the store.
+fn finish_sector(regs: Regs, held: &[u8], table: &mut [u8], bytes: &mut [u8]) -> Written
     requires { ⌜ length (now held) ≤ mostHeld ⌝ }
-    ensures { λ r. ⌜ ((x : List ℕ) → Stores (writtenHere (now (held .entry)) regs (now (table .entry)) (now (bytes .entry)) x)
+    ensures { λ r. ⌜ ((x : List ℕ) → Stores (intoHere (IntoSector (regs .write .id)) (now (held .entry)) regs (now (table .entry)) (now (bytes .entry)) x)
         regs (now (table .entry)) (now (bytes .entry)) r (now (table .exit)) (now (bytes .exit))) ⌝ }
 {
     let c1 = regs.write.c1;
@@ -41,21 +43,32 @@ fn finish_write(regs: Regs, held: &[u8], table: &mut [u8], bytes: &mut [u8]) -> 
     }
 }
 
+// The last byte of a write is held, be it of a sector or of a Format.
+fn finish_write(regs: Regs, held: &[u8], table: &mut [u8], bytes: &mut [u8]) -> Written
+    requires { ⌜ length (now held) ≤ mostHeld ⌝ }
+    ensures { λ r. ⌜ ((x : List ℕ) → Stores (writtenHere (now (held .entry)) regs (now (table .entry)) (now (bytes .entry)) x)
+        regs (now (table .entry)) (now (bytes .entry)) r (now (table .exit)) (now (bytes .exit))) ⌝ }
+{
+    if regs.write.track {
+        return finish_format(regs, held, table, bytes);
+    }
+    finish_sector(regs, held, table, bytes)
+}
+
 // A byte of a write in progress: the last one has it saved.
 fn data_byte(regs: Regs, b: u8, held: &mut [u8], table: &mut [u8], bytes: &mut [u8]) -> Written
-    requires { ⌜ (length (now held) ≡ mostHeld) × (regs .write .taken < sizeOf (regs .write .id .n)) ⌝ }
+    requires { ⌜ (length (now held) ≡ mostHeld) × (regs .write .taken < wholeOf (goalOf (regs .write))) ⌝ }
     ensures { λ r. ⌜ ((x : List ℕ) → left r (now (held .exit)) (now (table .exit)) (now (bytes .exit)) x
         ≡ leftOf (dataHere regs b (now (held .entry)) (now (table .entry)) (now (bytes .entry)) x)
         regs (now (held .entry)) (now (table .entry)) (now (bytes .entry)) x) ⌝ }
 {
     let p = regs.write;
-    let id = p.id;
     let at = p.taken as usize;
     let was = held[at];
     held[at] = b;
     let r = regs.holds(b);
     let end = at + 1;
-    if end != id.len() {
+    if end != p.whole() {
         return r.done();
     }
     let a = finish_write(r, &held[..end], table, bytes);

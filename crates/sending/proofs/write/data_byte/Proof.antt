@@ -13,10 +13,10 @@ use Rattle.sending.proofs.write.data_byte.Tie as tie
 
 -- the place is inside what is held
 room : (s : tie.Start) → s .args .regs .write .taken < length (s .args .held .now)
-room s = omega (arith, size-most (s .args .regs .write .id .n), s .pre .0, s .pre .1)
+room s = omega (arith, most s, s .pre .0, s .pre .1)
 
 small : (s : tie.Start) → s .args .regs .write .taken < mostHeld
-small s = omega (arith, size-most (s .args .regs .write .id .n), s .pre .1)
+small s = omega (arith, most s, s .pre .1)
 
 cast-at : tie.Need-cast-at
 cast-at c = search needs

@@ -12,15 +12,15 @@ use Rattle.commands.specs.Commands.{writeReply}
 use Rattle.commands.specs.Lent.{Stores, writtenHere}
 use Rattle.commands.proofs.Effects.{saveRegs, finish-none, finish-ran}
 use borrow.Author.Needs.{needs}
-use Rattle.sending.proofs.write.finish_write.Statement.{statement}
-use Rattle.sending.proofs.write.finish_write.Tie as tie
+use Rattle.sending.proofs.write.finish_sector.Statement.{statement}
+use Rattle.sending.proofs.write.finish_sector.Tie as tie
 
 abbrev entry : tie.After-reply7 → tie.Start
 entry c = c .before .before .before .before .before .before .before .before
 
 -- the registers then, where nothing refuses it
 replied-here : (c : tie.After-reply7) → let g = entry c .args in
-    c .reply7 .result ≡ replied (writeReply (writingOf (g .regs .write) (g .held .now))) (regsChanged Finish (g .regs))
+    c .reply7 .result ≡ replied (writeReply (g .regs .write .c1) (g .regs .write .id)) (regsChanged Finish (g .regs))
 unfolding writeReply
 replied-here c =
     let f = c .before in
@@ -30,7 +30,7 @@ replied-here c =
 saved-here : (k : tie.After-save) (a : Saved) (t′ b′ : List ℕ) → k .save .result ≡ a
     → let f = k .before .before .before .before .before .before in let n = f .before .before .before in let s = entry f in let g = s .args in
     outcome (k .save .result) t′ b′ ≡ saveOf (g .table .now) (g .bytes .now) (k .before .head-of .result) (n .named .result .cylinder) (g .regs .write .id) (g .held .now)
-    → (x : List ℕ) → Stores (writtenHere (g .held .now) (g .regs) (g .table .now) (g .bytes .now) x) (g .regs) (g .table .now) (g .bytes .now)
+    → (x : List ℕ) → Stores (intoHere (IntoSector (g .regs .write .id)) (g .held .now) (g .regs) (g .table .now) (g .bytes .now) x) (g .regs) (g .table .now) (g .bytes .now)
     (saveRegs (g .regs) (g .table .now) (g .bytes .now) (g .held .now) (s .pre) (n .named .result) (n .named .ensures) a) t′ b′
 saved-here k a t′ b′ e w x =
     let i = k .before .before .before .before in
@@ -131,8 +131,8 @@ returns-4 c =
     let q = saved-here k _ _ _ (m .sector .given .1) (k .save .ensures) x in
     (c .found .ensures ∙ ap (accepted (serves (m .sector .given .0 .0))) (replied-here (k .before .before .before .before .before .before)) ∙ q .0, q .1)
 
-pub finish-write-spec : {M : Type 1} → statement M
-finish-write-spec =
+pub finish-sector-spec : {M : Type 1} → statement M
+finish-sector-spec =
     tie.close
     (tie.spec
     named-requires
