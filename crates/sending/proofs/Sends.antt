@@ -22,9 +22,9 @@ use Rattle.registers.specs.declared.regs.Receipt.the-variants as receipt
 use Rattle.registers.specs.declared.regs.Written.{Written}
 use Rattle.registers.specs.declared.regs.Report.{Report}
 use Rattle.registers.specs.declared.regs.Setting.{Setting}
-use Rattle.registers.specs.Boxes.{silent, Rooms, Drives, wholeOf, Inside, Add, Hold, Clear, Effect, Sent}
+use Rattle.registers.specs.Boxes.{silent, Rooms, Drives, Named, named, wholeOf, Inside, Add, Hold, Clear, Effect, Sent}
 use Rattle.codes.specs.Table.{commandOf, bytesFor}
-use Rattle.commands.specs.Commands.{byte, formatAtOnce, formatTrack, obeyed}
+use Rattle.commands.specs.Commands.{byte, ready, formatAtOnce, hasPhase, formatIf, formatTrack, obeyed}
 use Rattle.sending.specs.Machine.{sends, clearing, commandIf, commandByte, dataIf, dataByte, byteFor, sent}
 use Rattle.registers.specs.View.{roomsOf, slotOf, drivesOf, namedIn, goalIf, goalOf, writingOf, writingIf, insideOf, impossibleIn}
 use Rattle.registers.specs.Settle.{accepted, declined, regsTaken, regsChanged, regsAll, regsResponded, regsOf, keptIf, kept}
@@ -36,9 +36,21 @@ use Rattle.fields.specs.Capacities.{mostHeld}
 -- ---- a byte of a command
 
 -- of the array only the command's bytes count
+format-same : (y : Setting) (s : Rooms) (l : List ℕ) (n : Named) → length l ≡ 9 → formatTrack y s l n ≡ formatTrack y s (take 6 l) n
+unfolding formatTrack formatAtOnce
+format-same y s l n h =
+    let three : byte l 3 ≡ byte (take 6 l) 3 = sym (getD-take 6 l 3 0 (omega arith)) in
+    ap (λ (k : ℕ). formatIf (hasPhase (y .machine) k (ready (n .slot))) s l n) three ∙ by (hasPhase (y .machine) (byte (take 6 l) 3) (ready (n .slot)))
+  where
+    by : (v : Bool) → formatIf v s l n ≡ formatIf v s (take 6 l) n
+    by true =
+        rw (getD-take 6 l 1 0 (omega arith), getD-take 6 l 2 0 (omega arith), getD-take 6 l 3 0 (omega arith), getD-take 6 l 4 0 (omega arith), getD-take 6 l 5 0 (omega arith))
+    by false =
+        rw (getD-take 6 l 1 0 (omega arith), getD-take 6 l 2 0 (omega arith), getD-take 6 l 3 0 (omega arith), getD-take 6 l 4 0 (omega arith), getD-take 6 l 5 0 (omega arith))
+
 front-same : (y : Setting) (s : Rooms) (k : Command) (l : List ℕ) (d : Drives) (index : ℕ) → length l ≡ 9
     → obeyed y s k l d index ≡ obeyed y s k (take (bytesFor k) l) d index
-unfolding obeyed formatTrack formatAtOnce
+unfolding obeyed
 front-same y s Specify l d i h = refl
 front-same y s SenseDrive l d i h = rw (getD-take 2 l 1 0 (omega arith))
 front-same y s Recalibrate l d i h = rw (getD-take 2 l 1 0 (omega arith))
@@ -50,7 +62,7 @@ front-same y s ReadDeleted l d i h = rw (take-all 9 l (omega arith))
 front-same y s WriteData l d i h = rw (take-all 9 l (omega arith))
 front-same y s ReadId l d i h = rw (getD-take 2 l 1 0 (omega arith))
 front-same y s FormatTrack l d i h =
-    rw (getD-take 6 l 1 0 (omega arith), getD-take 6 l 2 0 (omega arith), getD-take 6 l 3 0 (omega arith), getD-take 6 l 4 0 (omega arith), getD-take 6 l 5 0 (omega arith))
+    format-same y s l (named (byte l 1) d) h ∙ ap (λ (k : ℕ). formatTrack y s (take 6 l) (named k d)) (sym (getD-take 6 l 1 0 (omega arith)))
 front-same y s Unserved l d i h = refl
 front-same y s Invalid l d i h = refl
 

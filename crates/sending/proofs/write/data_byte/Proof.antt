@@ -1,17 +1,23 @@
 use mathlib.Core.Path.{refl, ap, _∙_}
-use Prim.Native.Nat.{_<_}
+use Prim.Native.Nat.{_<_, _≤_}
 use native.Mathlib.Omega.{arith}
 use lib.ListN.{length}
 use Rattle.fields.specs.Capacities.{mostHeld}
 use Rattle.registers.specs.Settle.{accepted}
-use Rattle.registers.specs.Boxes.{silent}
-use Rattle.fields.proofs.Sizes.{size-most}
+use Rattle.registers.specs.Boxes.{wholeOf, silent}
+use Rattle.registers.specs.View.{goalOf}
+use Rattle.registers.proofs.Numbers.{whole-most, goal-few}
 use Rattle.sending.proofs.Sends.{set-room, set-count, set-few, set-in, data-part, data-good, data-refused}
 use borrow.Author.Needs.{needs}
 use Rattle.sending.proofs.write.data_byte.Statement.{statement}
 use Rattle.sending.proofs.write.data_byte.Tie as tie
 
--- the place is inside what is held
+-- no more is written than can be held, so the place is inside
+most : (s : tie.Start) → wholeOf (goalOf (s .args .regs .write)) ≤ mostHeld
+most s =
+    let few : s .args .regs .write .shape .sectors < 256 = search needs in
+    whole-most (goalOf (s .args .regs .write)) (goal-few (s .args .regs .write) few)
+
 room : (s : tie.Start) → s .args .regs .write .taken < length (s .args .held .now)
 room s = omega (arith, most s, s .pre .0, s .pre .1)
 
@@ -22,19 +28,19 @@ cast-at : tie.Need-cast-at
 cast-at c = search needs
 
 slice-read-was : tie.Need-slice-read-was
-slice-read-was c = room (c .before .before .before .before .before .before .before)
+slice-read-was c = room (c .before .before .before .before .before .before)
 
 slice-write-held : tie.Need-slice-write-held
-slice-write-held c = room (c .before .before .before .before .before .before .before)
+slice-write-held c = room (c .before .before .before .before .before .before)
 
 holds-requires : tie.Need-holds-requires
-holds-requires c κs = small (c .before .before .before .before .before .before .before)
+holds-requires c κs = small (c .before .before .before .before .before .before)
 
 add-end : tie.Need-add-end
 add-end c = search needs
 
-len-requires : tie.Need-len-requires
-len-requires c κs = search needs
+whole-requires : tie.Need-whole-requires
+whole-requires c κs = search needs
 
 done-requires : tie.Need-done-requires
 done-requires c κs = search needs
@@ -44,28 +50,28 @@ same-length c = search needs
 
 returns : tie.Need-returns
 returns c =
-    let start = c .before .before .before .before .before .before .before .before .before .before .before in
+    let start = c .before .before .before .before .before .before .before .before .before .before in
     let args = start .args in
     let holds = c .before .before .before .holds in
-    let len = c .before .before .len in
-    λ x. data-part (args .regs) (args .b) (args .held .now) (args .table .now) (args .bytes .now) x (room start) (len .result) _ (len .ensures)
+    let whole = c .before .before .whole in
+    λ x. data-part (args .regs) (args .b) (args .held .now) (args .table .now) (args .bytes .now) x (room start) (whole .result) _ (whole .ensures .0)
     (c .before .if1 .taken) (c .done .ensures ∙ ap (accepted silent) (holds .ensures))
 
 slice-reshare-prefix-finish-write : tie.Need-slice-reshare-prefix-finish-write
 slice-reshare-prefix-finish-write c =
-    let start = c .before .before .before .before .before .before .before .before .before .before in
+    let start = c .before .before .before .before .before .before .before .before .before in
     let args = start .args in
     set-room (args .held .now) (args .regs .write .taken) (args .b) (room start)
 
 slice-aggregate-finish-write : tie.Need-slice-aggregate-finish-write
 slice-aggregate-finish-write c =
-    let start = c .before .before .before .before .before .before .before .before .before .before .before in
+    let start = c .before .before .before .before .before .before .before .before .before .before in
     let args = start .args in
     set-count (args .held .now) (args .regs .write .taken) (args .b) (room start)
 
 finish-write-requires : tie.Need-finish-write-requires
 finish-write-requires c κs =
-    let start = c .before .before .before .before .before .before .before .before .before .before .before .before .before in
+    let start = c .before .before .before .before .before .before .before .before .before .before .before .before in
     let args = start .args in
     set-few (args .held .now) (args .regs .write .taken) (args .b) (room start) (small start)
 
@@ -77,7 +83,7 @@ enum-known-receipt c = search needs
 
 slice-write-held-2 : tie.Need-slice-write-held-2
 slice-write-held-2 c =
-    let start = c .before .before .before .before .before .before .before .before .before .before .before .before .before .before .before .before .before .before .before .before .before in
+    let start = c .before .before .before .before .before .before .before .before .before .before .before .before .before .before .before .before .before .before .before .before in
     let args = start .args in
     set-in (args .held .now) (args .regs .write .taken) (args .b) (room start)
 
@@ -95,14 +101,14 @@ same-length-4 c = search needs
 
 returns-2 : tie.Need-returns-2
 returns-2 c =
-    let start = c .before .before .before .before .before .before .before .before .before .before .before .before .before .before .before .before .before .before .before .before in
+    let start = c .before .before .before .before .before .before .before .before .before .before .before .before .before .before .before .before .before .before .before in
     let args = start .args in
     let holds = c .before .before .before .before .before .before .before .before .before .before .before .before .holds in
-    let len = c .before .before .before .before .before .before .before .before .before .before .before .len in
+    let whole = c .before .before .before .before .before .before .before .before .before .before .before .whole in
     let if1 = c .before .before .before .before .before .before .before .before .before .before .if1 in
     let finish-write = c .before .before .before .before .before .before .finish-write in
-    λ x. data-good (args .regs) (args .b) (args .held .now) (args .table .now) (args .bytes .now) x (room start) (len .result) (finish-write .result) _ _
-    (len .ensures) (if1 .left) (holds .result) _ (holds .ensures) refl _ (c .enum-told .given .1) (finish-write .ensures x)
+    λ x. data-good (args .regs) (args .b) (args .held .now) (args .table .now) (args .bytes .now) x (room start) (whole .result) (finish-write .result) _ _
+    (whole .ensures .0) (if1 .left) (holds .result) _ (holds .ensures) refl _ (c .enum-told .given .1) (finish-write .ensures x)
 
 same-length-5 : tie.Need-same-length-5
 same-length-5 c = search needs
@@ -115,15 +121,15 @@ same-length-7 c = search needs
 
 returns-3 : tie.Need-returns-3
 returns-3 c =
-    let start = c .before .before .before .before .before .before .before .before .before .before .before .before .before .before .before .before .before .before .before .before .before .before in
+    let start = c .before .before .before .before .before .before .before .before .before .before .before .before .before .before .before .before .before .before .before .before .before in
     let args = start .args in
     let holds = c .before .before .before .before .before .before .before .before .before .before .before .before .before .before .holds in
-    let len = c .before .before .before .before .before .before .before .before .before .before .before .before .before .len in
+    let whole = c .before .before .before .before .before .before .before .before .before .before .before .before .before .whole in
     let if1 = c .before .before .before .before .before .before .before .before .before .before .before .before .if1 in
     let finish-write = c .before .before .before .before .before .before .before .before .finish-write in
     let receipt = c .before .before .receipt in
-    λ x. data-refused (args .regs) (args .b) (args .held .now) (args .table .now) (args .bytes .now) x (room start) (len .result) (finish-write .result) _
-    _ (len .ensures) (if1 .left) (holds .result) _ (holds .ensures) refl _ _ (receipt .given .1) (c .refused .ensures) (finish-write .ensures x)
+    λ x. data-refused (args .regs) (args .b) (args .held .now) (args .table .now) (args .bytes .now) x (room start) (whole .result) (finish-write .result) _
+    _ (whole .ensures .0) (if1 .left) (holds .result) _ (holds .ensures) refl _ _ (receipt .given .1) (c .refused .ensures) (finish-write .ensures x)
 
 pub data-byte-spec : {M : Type 1} → statement M
 data-byte-spec =
@@ -134,7 +140,7 @@ data-byte-spec =
     slice-write-held
     holds-requires
     add-end
-    len-requires
+    whole-requires
     done-requires
     same-length
     returns

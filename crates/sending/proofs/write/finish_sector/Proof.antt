@@ -5,11 +5,10 @@ use borrow.Author.Tests.{not-true, not-false}
 use Rattle.store.specs.Calls.{outcome}
 use Rattle.disk.specs.Calls.{saveOf}
 use Rattle.disk.specs.declared.answer.Saved.{Saved}
-use Rattle.registers.specs.Boxes.{silent, serves, Finish}
-use Rattle.registers.specs.View.{writingOf}
+use Rattle.registers.specs.Boxes.{IntoSector, silent, serves, Finish}
 use Rattle.registers.specs.Settle.{accepted, replied, regsChanged}
 use Rattle.commands.specs.Commands.{writeReply}
-use Rattle.commands.specs.Lent.{Stores, writtenHere}
+use Rattle.commands.specs.Lent.{Stores, intoHere}
 use Rattle.commands.proofs.Effects.{saveRegs, finish-none, finish-ran}
 use borrow.Author.Needs.{needs}
 use Rattle.sending.proofs.write.finish_sector.Statement.{statement}
