@@ -3,7 +3,10 @@
 use crate::chance::Chance;
 use crate::host::{CONTROLLER, TABLE};
 use crate::layout;
-use crate::view::{C1, COUNT, DISK, FILL, FROM, ID, LOST, MOTOR, PLACE, SEEK, TAKEN, UNTIL, WRITE};
+use crate::view::{
+    C1, COUNT, CYLINDER, DISK, FILL, FROM, HELD, ID, KIND, LOST, MOTOR, PLACE, SECTOR, SECTORS,
+    SEEK, SETTING, TAKEN, TRACK, UNTIL, WRITE,
+};
 
 /// A table that breaks the layout with a data buffer of this length, made from a
 /// good one: of a wrong length, or with wrong numbers.
@@ -29,8 +32,8 @@ pub fn broken_table(table: &[u8], data: usize, chance: &mut Chance) -> Vec<u8> {
 /// one impossible number.
 pub fn impossible(controller: &[u8], chance: &mut Chance) -> Vec<u8> {
     let mut bytes = controller.to_vec();
-    match chance.below(12) {
-        0 => bytes.truncate(chance.of(&[0, 1, 42, CONTROLLER - 1])),
+    match chance.below(16) {
+        0 => bytes.truncate(chance.of(&[0, 1, HELD, CONTROLLER - 1])),
         1 => bytes.push(0),
         2 => (bytes[PLACE], bytes[FILL]) = (4, 3),
         3 => (bytes[PLACE], bytes[FILL]) = (0, over(chance, 8)),
@@ -45,22 +48,44 @@ pub fn impossible(controller: &[u8], chance: &mut Chance) -> Vec<u8> {
             bytes[UNTIL..LOST].copy_from_slice(&until.to_le_bytes());
         }
         7 => bytes[SEEK] = over(chance, 3),
-        8 => bytes[chance.of(&[MOTOR, WRITE, DISK])] = over(chance, 2),
+        8 => bytes[chance.of(&[MOTOR, WRITE, DISK, SETTING, KIND])] = over(chance, 2),
         9 => {
             bytes[WRITE] = 1;
             bytes[C1] = chance.byte() & 0xfc | 1 + chance.small(3);
         }
-        _ => {
-            let n = chance.small(8);
-            let size = 128u16 << (n & 3);
-            bytes[WRITE] = 1;
-            bytes[C1] = 0;
-            bytes[ID + 3] = n;
-            let taken = chance.of(&[size, size + 1, 1_024, 65_535]);
-            bytes[TAKEN..TAKEN + 2].copy_from_slice(&taken.to_le_bytes());
-        }
+        10 | 11 => full_write(&mut bytes, chance),
+        _ => wrong_format(&mut bytes, chance),
     }
     bytes
+}
+
+/// A write that has as many bytes as its sector, or more.
+fn full_write(bytes: &mut [u8], chance: &mut Chance) {
+    let n = chance.small(8);
+    let size = 128u16 << (n & 3);
+    (bytes[WRITE], bytes[KIND], bytes[C1]) = (1, SECTOR, 0);
+    bytes[ID + 3] = n;
+    take(bytes, chance.of(&[size, size + 1, 1_024, 65_535]));
+}
+
+/// A Format of the data-sheet machine that has all its IDs, or more, or is for another
+/// drive; or one of the Rust machine.
+fn wrong_format(bytes: &mut [u8], chance: &mut Chance) {
+    let count = chance.of(&[0, 1, 9, 255]);
+    let whole = 4 * u16::from(count);
+    let part = chance.below(whole.max(1).into()) as u16;
+    let ids = chance.of(&[whole, whole, whole + 1, 1_024, 65_535]);
+    let drive = 1 + chance.small(3);
+    (bytes[WRITE], bytes[KIND]) = (1, TRACK);
+    bytes[SECTORS] = count;
+    let (setting, c1, taken) = chance.of(&[(1, 0, ids), (1, drive, part), (0, 0, part)]);
+    (bytes[SETTING], bytes[C1]) = (setting, chance.byte() & 0xfc | c1);
+    take(bytes, taken);
+}
+
+/// Has so many bytes held.
+fn take(bytes: &mut [u8], taken: u16) {
+    bytes[TAKEN..CYLINDER].copy_from_slice(&taken.to_le_bytes());
 }
 
 /// A controller whose data reach beyond a transfer room, mostly by one byte. It is

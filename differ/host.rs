@@ -10,15 +10,15 @@ use crate::found::Match;
 pub use words::*;
 
 /// How many bytes a controller has.
-pub const CONTROLLER: usize = 1_066;
+pub const CONTROLLER: usize = 1_072;
 
 /// How many bytes a disk's table has.
 pub const TABLE: usize = 17_609;
 
 /// How many bytes the longest sheet has: all lengths and numbers, a command that lacks
 /// its last byte, a reply, unread data, and c1, ID and bytes of a write that lacks its
-/// last byte.
-pub const SHEET: usize = 31 + 8 + 7 + 65_536 + 5 + 1_023;
+/// last byte. A Format, beside which there is no write, is shorter.
+pub const SHEET: usize = 36 + 8 + 7 + 65_536 + 5 + 1_023;
 
 /// The word of a call that is refused with this number, or that answers nothing
 /// where it is 0.

@@ -7,6 +7,7 @@ use raze::disk::Disk;
 use crate::buffer::Buffer;
 use crate::capacities::{MOST_BYTES, MOST_TRANSFER};
 use crate::chance::Chance;
+use crate::datasheet::Machine;
 use crate::pair::{Kept, Pair};
 use crate::session::{self, Call, Session, Slot};
 use crate::store::{Store, rust_load};
@@ -59,7 +60,7 @@ fn run_session(session: &Session, watch: &mut Watch) -> Checked {
     let [a, b] = session.images();
     let disks = vec![kept(a, &mut chance, watch)?, kept(b, &mut chance, watch)?];
     let transfer = Buffer::new(MOST_TRANSFER, 9, &mut chance);
-    let mut pair = Pair::new(disks, transfer, &mut chance, watch)?;
+    let mut pair = Pair::new(Machine::Rust, disks, transfer, &mut chance, watch)?;
     let mut calls = session.calls().iter();
     let done = calls.try_for_each(|call| run_call(call, &mut pair, &mut chance));
     let done = done.and_then(|()| pair.finish(&mut chance));
@@ -87,8 +88,8 @@ fn run_call(call: &Call, pair: &mut Pair, chance: &mut Chance) -> Checked {
         Call::Put(Slot::A) => pair.put(Some(0), 1),
         Call::Put(Slot::B) => pair.put(Some(1), 1),
         Call::Motor(on) => pair.motor((*on).into()),
-        Call::Status(times) => (0..*times).try_for_each(|_| pair.status()),
-        Call::Read(times) => (0..*times).try_for_each(|_| pair.read()),
+        Call::Status(times) => (0..*times).try_for_each(|_| pair.status().map(|_| ())),
+        Call::Read(times) => (0..*times).try_for_each(|_| pair.read().map(|_| ())),
         Call::Send { times, bytes } => {
             (0..*times).try_for_each(|_| bytes.iter().try_for_each(|&b| pair.taken(b)))
         }

@@ -4,6 +4,8 @@
 #[allow(dead_code)]
 #[path = "../oracle/capacities.rs"]
 mod capacities;
+#[path = "../oracle/datasheet.rs"]
+mod datasheet;
 #[allow(dead_code)]
 #[path = "../oracle/dsk.rs"]
 mod dsk;
@@ -32,9 +34,11 @@ mod stream;
 
 mod bench;
 mod buffer;
+mod by_hand;
 mod cases;
 mod chance;
 mod faults;
+mod formats;
 mod homes;
 mod host;
 mod kept;

@@ -7,16 +7,16 @@ mod sheets;
 use std::fmt;
 
 use raze::disk::Disk;
-use raze::floppy::Floppy;
 
 use crate::buffer::Buffer;
 use crate::capacities::Totals;
 use crate::chance::Chance;
+use crate::datasheet::{Machine, Model};
 use crate::found::Match;
 use crate::host::{self, Address, CONTROLLER};
 use crate::rules::{self, Lent, Look};
 use crate::store::Store;
-use crate::view::{HELD, Rust, View};
+use crate::view::{HELD, Rust, SETTING, View};
 use crate::watch::{Checked, Difference, Watch};
 use crate::{homes, lookups};
 
@@ -28,7 +28,7 @@ pub struct Kept {
 
 /// Both controllers, the disks, and which of them is in the drive.
 pub struct Pair<'a> {
-    rust: Floppy,
+    rust: Model,
     controller: Vec<u8>,
     disks: Vec<Kept>,
     slot: Option<usize>,
@@ -41,23 +41,18 @@ pub struct Pair<'a> {
 }
 
 impl Pair<'_> {
-    /// New controllers with these disks, none of which is in the drive, and this
-    /// transfer buffer.
+    /// New controllers of this machine with these disks, none of which is in the drive,
+    /// and this transfer buffer.
     pub fn new<'a>(
+        machine: Machine,
         disks: Vec<Kept>,
         transfer: Buffer,
         chance: &mut Chance,
         watch: &'a mut Watch,
     ) -> Checked<Pair<'a>> {
-        let mut controller = chance.bytes(CONTROLLER);
-        let answer = host::new(&mut controller);
-        watch.call("new");
-        if answer != 0 || controller != [0; CONTROLLER] {
-            let ours = format!("answer {answer:#x}, {}", View(&controller));
-            return Err(Difference::new("new", "all bytes 0", ours));
-        }
+        let controller = new_controller(machine, chance, watch)?;
         Ok(Pair {
-            rust: Floppy::new(),
+            rust: Model::new(machine),
             controller,
             disks,
             slot: None,
@@ -68,8 +63,8 @@ impl Pair<'_> {
         })
     }
 
-    /// The Rust's controller.
-    pub fn rust(&self) -> &Floppy {
+    /// The Rust's controller, with what the data-sheet machine has beside it.
+    pub fn rust(&self) -> &Model {
         &self.rust
     }
 
@@ -103,26 +98,27 @@ impl Pair<'_> {
         &mut self.disks[self.slot.unwrap_or(0)].store
     }
 
-    /// Reads the status.
-    pub fn status(&mut self) -> Checked {
+    /// Reads the status, and answers it.
+    pub fn status(&mut self) -> Checked<u8> {
         let answer = host::read_status(&mut self.controller);
         let status = self.rust.read_status();
         self.watch.call("status");
-        self.same("status", status.into(), answer)
+        self.same("status", status.into(), answer)?;
+        Ok(status)
     }
 
-    /// Reads the data port.
-    pub fn read(&mut self) -> Checked {
+    /// Reads the data port, and answers the byte, 0 where it is refused.
+    pub fn read(&mut self) -> Checked<u8> {
         let before = self.refuses_data().then(|| self.controller.clone());
         let answer = host::read_cmd(&mut self.controller, self.transfer.part());
         self.watch.call("data read");
-        match before {
-            Some(before) => self.refused("read", 1, answer, &before),
-            None => {
-                let byte = self.rust.read_cmd();
-                self.same("read", byte.into(), answer)
-            }
+        if let Some(before) = before {
+            self.refused("read", 1, answer, &before)?;
+            return Ok(0);
         }
+        let byte = self.rust.read_cmd();
+        self.same("read", byte.into(), answer)?;
+        Ok(byte)
     }
 
     /// Switches the motor.
@@ -133,15 +129,18 @@ impl Pair<'_> {
         self.same(format_args!("motor {on}"), 0, answer)
     }
 
-    /// Asks for motor, cylinder and disk.
+    /// Asks for setting, motor, cylinder and disk.
     pub fn ask(&mut self) -> Checked {
         let before = self.controller.clone();
+        let setting = host::setting(&self.controller);
         let motor = host::motor(&self.controller);
         let track = host::current_track(&self.controller);
         let disk = host::disk(&self.controller);
-        for name in ["motor", "current_track", "disk"] {
+        for name in ["setting", "motor", "current_track", "disk"] {
             self.watch.call(name);
         }
+        let machine = self.rust.machine().number();
+        self.same("ask for the setting", machine.into(), setting)?;
         self.same("ask for the motor", self.rust.motor().into(), motor)?;
         self.same("ask for the track", self.rust.current_track().into(), track)?;
         self.same("ask for the disk", self.rust.disk().is_some().into(), disk)?;
@@ -209,7 +208,7 @@ impl Pair<'_> {
         self.found = look.as_ref().and_then(|look| look.finds(&self.rust));
         self.watch
             .found(["sector told", "equal IDs told"], self.found);
-        self.rust.write_cmd(b);
+        self.write_rust(b);
         let expected = Match::word(self.found);
         self.same(format_args!("send {b:02x}"), expected, answer)?;
         if let Some(look) = &look {
@@ -221,6 +220,17 @@ impl Pair<'_> {
             _ => {}
         }
         Ok(0)
+    }
+
+    /// Sends a byte that is taken to the Rust's side, and counts Formats by their IDs.
+    fn write_rust(&mut self, b: u8) {
+        let before = self.rust.format().is_some();
+        self.rust.write_cmd(b);
+        match (before, self.rust.format().is_some()) {
+            (false, true) => self.watch.count("formats by IDs begun"),
+            (true, false) => self.watch.count("formats by IDs ended"),
+            _ => {}
+        }
     }
 
     fn call_write(&mut self, b: u8, table: Option<&[u8]>) -> Checked<u64> {
@@ -367,4 +377,26 @@ impl Pair<'_> {
             self.filled
         )
     }
+}
+
+/// The bytes of a new controller of this machine, made over noise: zeros, but for the
+/// setting. The Rust machine is also made without one. Of a setting only bit 0 counts.
+fn new_controller(machine: Machine, chance: &mut Chance, watch: &mut Watch) -> Checked<Vec<u8>> {
+    let mut controller = chance.bytes(CONTROLLER);
+    let setting = chance.byte() & 0xfe | machine.number();
+    let answer = if machine == Machine::Rust && chance.once_in(2) {
+        watch.call("new");
+        host::new(&mut controller)
+    } else {
+        watch.call("new_with");
+        host::new_with(&mut controller, setting)
+    };
+    let mut expected = vec![0; CONTROLLER];
+    expected[SETTING] = machine.number();
+    if answer == 0 && controller == expected {
+        return Ok(controller);
+    }
+    let ours = format!("answer {answer:#x}, {}", View(&controller));
+    let call = format!("new of {machine:?}, setting {setting:#x}");
+    Err(Difference::new(call, View(&expected), ours))
 }

@@ -1,10 +1,12 @@
 //! What document 01 adds to the Rust: which sent bytes look at the store, and
-//! which of them are refused. All of it is told from the Rust's own state.
+//! which of them are refused. All of it is told from the Rust's own state, and where
+//! there is one from the Format of the data-sheet machine.
 
 use raze::disk::{Disk, Sector, Track};
-use raze::floppy::{Floppy, SectorId};
+use raze::floppy::SectorId;
 
 use crate::capacities::{Totals, transfer_refusal};
+use crate::datasheet::Model;
 use crate::found::Match;
 
 /// What a byte has the store looked at for.
@@ -44,7 +46,7 @@ impl Look {
     }
 
     /// Which sector it finds, which the word tells: of a read its first one.
-    pub fn finds(&self, rust: &Floppy) -> Option<Match> {
+    pub fn finds(&self, rust: &Model) -> Option<Match> {
         let (head, id) = self.wanted()?;
         Match::find(rust.disk()?, head, rust.current_track(), id)
     }
@@ -56,16 +58,28 @@ fn head_of(c1: u8) -> u8 {
 }
 
 /// What the store is looked at for when this byte is sent, if it is. It takes a
-/// disk in the drive, and the last byte of a command for drive 0 or of a write.
-pub fn look(rust: &Floppy, b: u8) -> Option<Look> {
+/// disk in the drive, and the last byte of a command for drive 0, of a write or of the
+/// IDs of a Format. The byte that IDs come behind looks at nothing.
+pub fn look(rust: &Model, b: u8) -> Option<Look> {
     rust.disk()?;
+    let cylinder = rust.current_track();
+    if let Some(format) = rust.format() {
+        return (format.left() == 1).then(|| Look::Format(format.with(b).track(cylinder)));
+    }
+    if rust.begins(b).is_some() {
+        return None;
+    }
     let boxes = rust.boxes();
     if let Some((c1, id, left, _)) = boxes.write {
         let (head, id) = (head_of(c1), id.clone());
         return (left == 1).then_some(Look::Save { head, id });
     }
-    let command = [boxes.command, &[b]].concat();
-    match command[..] {
+    ended(&[boxes.command, &[b]].concat(), cylinder)
+}
+
+/// What a command looks at the store for, if it is one for drive 0 with all its bytes.
+fn ended(command: &[u8], cylinder: u8) -> Option<Look> {
+    match *command {
         [first, c1, c, h, r, n, eot, _, _] if c1 & 3 == 0 => {
             let (head, id) = (head_of(c1), SectorId { c, h, r, n });
             match (first & 0x1f, first & 0x3f) {
@@ -76,7 +90,7 @@ pub fn look(rust: &Floppy, b: u8) -> Option<Look> {
         }
         [first, c1] if c1 & 3 == 0 && first & 0xbf == 0x0a => Some(Look::Id),
         [first, c1, n, count, gap, filler] if c1 & 3 == 0 && first & 0xbf == 0x0d => {
-            let (cylinder, head) = (rust.current_track(), head_of(c1));
+            let head = head_of(c1);
             let track = Track::new_formatted(cylinder, head, n, count, gap, filler);
             Some(Look::Format(track))
         }
@@ -101,7 +115,7 @@ impl Lent {
 
     /// The refusal number of a byte that looks at the store for this, or at
     /// nothing; 0 where it is taken.
-    pub fn refusal(&self, rust: &Floppy, look: Option<&Look>) -> u8 {
+    pub fn refusal(&self, rust: &Model, look: Option<&Look>) -> u8 {
         if !self.holds_data() {
             return 1;
         }

@@ -3,18 +3,13 @@
 
 mod disks;
 
-use crate::buffer::Buffer;
-use crate::capacities::{MOST_TRANSFER, Totals};
-use crate::chance::Chance;
-use crate::dsk::{Plan, Sector, Track};
+use crate::by_hand::{self, refused, same};
+use crate::datasheet::Machine;
+use crate::dsk::{Sector, Track};
 use crate::found::Match;
-use crate::pair::{Kept, Pair};
-use crate::store::{Store, rust_load};
-use crate::watch::{Checked, Difference, Watch, told};
+use crate::pair::Pair;
+use crate::watch::{Checked, Watch, told};
 use disks::{Case, WANTED, at, numbers};
-
-/// How many bytes a store has to spare: more than a format of 255 sectors takes.
-const SPARE: usize = 33_000;
 
 /// A sector of n 0.
 const DATA: [u8; 128] = [0x5a; 128];
@@ -31,34 +26,9 @@ pub fn run(watch: &mut Watch) -> bool {
         && said("refusals", refusals(watch))
 }
 
-/// Plays with these disks in a new controller, the first of them in the drive.
+/// Plays with these disks on the Rust machine, the first of them in the drive.
 fn with(disks: &[&[Track]], watch: &mut Watch, play: impl FnOnce(&mut Pair) -> Checked) -> Checked {
-    watch.count("disks served from");
-    let mut chance = Chance::new(0);
-    let disks = disks
-        .iter()
-        .map(|tracks| loaded(tracks, &mut chance, watch));
-    let disks = disks.collect::<Checked<Vec<Kept>>>()?;
-    let transfer = Buffer::new(MOST_TRANSFER, 9, &mut chance);
-    let mut pair = Pair::new(disks, transfer, &mut chance, watch)?;
-    let done = pair.put(Some(0), 1).and_then(|()| play(&mut pair));
-    let done = done.and_then(|()| pair.finish(&mut chance));
-    done.map_err(|difference| difference.with(pair.states()))
-}
-
-/// The disk of these tracks, loaded on both sides.
-fn loaded(tracks: &[Track], chance: &mut Chance, watch: &mut Watch) -> Checked<Kept> {
-    let image = Plan::packed(tracks).image();
-    let rust = rust_load(&image)?;
-    let bytes = rust.as_ref().map_or(0, |disk| Totals::of(disk).bytes);
-    let mut store = Store::new(bytes + SPARE, 9, chance);
-    let (0, Ok(disk)) = (store.load(&image, &rust, watch)?, rust) else {
-        return Err(Difference::new("load", "a disk", "a refusal"));
-    };
-    Ok(Kept {
-        rust: Some(disk),
-        store,
-    })
+    by_hand::with(Machine::Rust, disks, watch, play)
 }
 
 /// Sends bytes that are taken, of which only the last tells of a sector, or of none.
@@ -71,15 +41,7 @@ fn tells(pair: &mut Pair, bytes: &[u8], told: Option<Match>) -> Checked {
 /// Sends a byte that is taken, and tells of this sector, or of none.
 fn step(pair: &mut Pair, b: u8, told: Option<Match>) -> Checked {
     pair.taken(b)?;
-    if pair.found() == told {
-        return Ok(());
-    }
-    let (told, found) = (format!("{told:?}"), format!("{:?}", pair.found()));
-    Err(Difference::new(
-        format!("send {b:02x}, by hand"),
-        told,
-        found,
-    ))
+    same(format_args!("send {b:02x}, by hand"), told, pair.found())
 }
 
 /// A command of nine bytes for the wanted sector.
@@ -223,17 +185,4 @@ fn refusals(watch: &mut Watch) -> Checked {
         pair.store().data.lend(328);
         tells(pair, &DATA[127..], at(2, 2))
     })
-}
-
-/// Sends a byte that is refused with this number.
-fn refused(pair: &mut Pair, b: u8, number: u8) -> Checked {
-    let refusal = pair.send(b)?;
-    if refusal == number {
-        return Ok(());
-    }
-    Err(Difference::new(
-        format!("send {b:02x}, by hand"),
-        number,
-        refusal,
-    ))
 }

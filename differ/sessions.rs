@@ -1,6 +1,7 @@
 //! A case of sessions: calls by chance on both controllers, with several disks.
 
 mod commands;
+mod ids;
 mod pauses;
 mod rooms;
 mod turns;
@@ -12,6 +13,7 @@ use raze::disk::Disk;
 use crate::buffer::Buffer;
 use crate::capacities::Totals;
 use crate::chance::Chance;
+use crate::datasheet::Machine;
 use crate::made;
 use crate::pair::{Kept, Pair};
 use crate::store::{Store, rust_load};
@@ -28,17 +30,21 @@ const FULL: RangeInclusive<u8> = 3..=7;
 const NOISE: RangeInclusive<u8> = 8..=39;
 const SHEET: RangeInclusive<u8> = 40..=63;
 
-/// Runs the case of this seed.
+/// Runs the case of this seed, a third of them on the data-sheet machine.
 pub fn run(seed: u64, kind: u8, watch: &mut Watch) -> Checked {
     let mut chance = Chance::new(seed);
+    let machine = chance.of(&[Machine::Rust, Machine::Rust, Machine::DataSheet]);
     watch.count("sessions");
+    if machine == Machine::DataSheet {
+        watch.count("sessions of the data-sheet machine");
+    }
     let disks = disks(kind, &mut chance, watch)?;
     let length = match kind {
         LONG => 70_000,
         _ => rooms::transfer(&mut chance),
     };
     let transfer = Buffer::new(length, chance.below(40), &mut chance);
-    let mut pair = Pair::new(disks, transfer, &mut chance, watch)?;
+    let mut pair = Pair::new(machine, disks, transfer, &mut chance, watch)?;
     let done = play(&mut pair, kind, &mut chance);
     let done = done.and_then(|()| pair.finish(&mut chance));
     done.map_err(|difference| difference.with(pair.states()))
@@ -83,6 +89,7 @@ fn begin_with_long_reads(pair: &mut Pair, chance: &mut Chance) -> Checked {
     pair.put(Some(0), 1)?;
     commands::send_all(pair, &[0, 0], chance)?;
     commands::send_all(pair, &[0x4d, 0, 3, 66, 0x2a, chance.byte()], chance)?;
+    ids::usual(pair, chance)?;
     for eot in [64, 65] {
         commands::send_all(pair, &[0x46, 0, 0, 0, 1, 3, eot, 0x2a, 0xff], chance)?;
     }

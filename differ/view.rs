@@ -2,7 +2,7 @@
 
 use std::fmt;
 
-use raze::floppy::Floppy;
+use crate::datasheet::{Format, Model};
 
 /// Where the fields of a controller stand.
 pub const COUNT: usize = 9;
@@ -21,7 +21,17 @@ pub const TAKEN: usize = 37;
 pub const CYLINDER: usize = 39;
 pub const SEEK: usize = 40;
 pub const DISK: usize = 41;
-pub const HELD: usize = 42;
+pub const SETTING: usize = 42;
+pub const KIND: usize = 43;
+pub const FORMAT: usize = 44;
+pub const HELD: usize = 48;
+
+/// Where the count of a Format stands.
+pub const SECTORS: usize = FORMAT + 1;
+
+/// What a write in progress is of: a sector, or a track that is formatted.
+pub const SECTOR: u8 = 0;
+pub const TRACK: u8 = 1;
 
 /// The bytes of a controller.
 pub struct View<'a>(pub &'a [u8]);
@@ -51,16 +61,18 @@ impl View<'_> {
         (self.long(FROM), self.long(UNTIL))
     }
 
-    /// The bytes that a write in progress has, if there is one.
-    pub fn held(&self) -> Option<&[u8]> {
-        (self.0[WRITE] == 1).then(|| self.0[HELD..].get(..self.word(TAKEN)).unwrap_or(&[]))
+    /// What a write in progress is of, and the bytes that it has, if there is one.
+    pub fn held(&self) -> Option<(u8, &[u8])> {
+        let held = self.0[HELD..].get(..self.word(TAKEN)).unwrap_or(&[]);
+        (self.0[WRITE] == 1).then_some((self.0[KIND], held))
     }
 
-    /// The first box that is not as the Rust has it.
-    pub fn differs(&self, rust: &Floppy) -> Option<&'static str> {
+    /// The first box that is not as the Rust has it, or the machine that is told of it.
+    pub fn differs(&self, rust: &Model) -> Option<&'static str> {
         let boxes = rust.boxes();
         let (from, until) = self.data();
         let checks = [
+            ("machine", self.0[SETTING] == rust.machine().number()),
             ("cylinder", self.0[CYLINDER] == rust.current_track()),
             ("motor", self.0[MOTOR] == rust.motor().into()),
             ("disk", self.0[DISK] == rust.disk().is_some().into()),
@@ -79,18 +91,28 @@ impl View<'_> {
         wrong.map(|(name, _)| name)
     }
 
-    fn writes_as(&self, rust: &Floppy) -> bool {
-        match (self.held(), rust.boxes().write) {
-            (None, None) => true,
-            (Some(held), Some((c1, id, left, bytes))) => {
+    fn writes_as(&self, rust: &Model) -> bool {
+        match (self.held(), rust.boxes().write, rust.format()) {
+            (None, None, None) => true,
+            (Some((SECTOR, held)), Some((c1, id, left, bytes)), None) => {
                 self.0[C1] == c1
                     && self.0[ID..TAKEN] == [id.c, id.h, id.r, id.n]
                     && left + bytes.len() == id.len()
                     && held == bytes
             }
+            (Some((TRACK, held)), None, Some(format)) => {
+                self.0[C1] == format.c1
+                    && self.0[FORMAT..HELD] == numbers(format)
+                    && held == format.ids
+            }
             _ => false,
         }
     }
+}
+
+/// The numbers of a Format, all but its c1.
+fn numbers(format: &Format) -> [u8; 4] {
+    [format.n, format.count, format.gap, format.filler]
 }
 
 /// The boxes in words.
@@ -99,8 +121,9 @@ impl fmt::Display for View<'_> {
         let (from, until) = self.data();
         write!(
             f,
-            "cylinder {} motor {} disk {} seek {} lost {} index {} command {:02x?} reply {:02x?} \
-             data {from} to {until} ",
+            "machine {} cylinder {} motor {} disk {} seek {} lost {} index {} command {:02x?} \
+             reply {:02x?} data {from} to {until} ",
+            self.0[SETTING],
             self.0[CYLINDER],
             self.0[MOTOR],
             self.0[DISK],
@@ -112,24 +135,29 @@ impl fmt::Display for View<'_> {
         )?;
         match self.held() {
             None => write!(f, "write none"),
-            Some(held) => {
+            Some((SECTOR, held)) => {
                 let id = &self.0[C1..TAKEN];
                 write!(f, "write c1 and id {id:02x?} held {} bytes", held.len())
+            }
+            Some((_, held)) => {
+                let (c1, numbers) = (self.0[C1], &self.0[FORMAT..HELD]);
+                write!(f, "format c1 {c1:02x} {numbers:02x?} ids {held:02x?}")
             }
         }
     }
 }
 
 /// The Rust's boxes in the same words.
-pub struct Rust<'a>(pub &'a Floppy);
+pub struct Rust<'a>(pub &'a Model);
 
 impl fmt::Display for Rust<'_> {
     fn fmt(&self, f: &mut fmt::Formatter<'_>) -> fmt::Result {
         let boxes = self.0.boxes();
         write!(
             f,
-            "cylinder {} motor {} disk {} seek {} lost {} index {} command {:02x?} reply {:02x?} \
-             data {} unread ",
+            "machine {} cylinder {} motor {} disk {} seek {} lost {} index {} command {:02x?} \
+             reply {:02x?} data {} unread ",
+            self.0.machine().number(),
             self.0.current_track(),
             u8::from(self.0.motor()),
             u8::from(self.0.disk().is_some()),
@@ -140,12 +168,17 @@ impl fmt::Display for Rust<'_> {
             boxes.reply,
             boxes.data.len(),
         )?;
-        match boxes.write {
-            None => write!(f, "write none"),
-            Some((c1, id, _, held)) => {
+        match (boxes.write, self.0.format()) {
+            (Some((c1, id, _, held)), _) => {
                 let id = [c1, id.c, id.h, id.r, id.n];
                 write!(f, "write c1 and id {id:02x?} held {} bytes", held.len())
             }
+            (None, Some(format)) => {
+                let (c1, ids) = (format.c1, &format.ids);
+                let numbers = numbers(format);
+                write!(f, "format c1 {c1:02x} {numbers:02x?} ids {ids:02x?}")
+            }
+            (None, None) => write!(f, "write none"),
         }
     }
 }

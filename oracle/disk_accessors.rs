@@ -1,4 +1,4 @@
-// Appended to the copy of disk.rs: what its private fields hold, to be read only.
+// Appended to the copy of disk.rs: what its private fields hold, and a way to change sectors.
 
 impl Disk {
     /// The tracks, in the order in which the disk keeps them.
@@ -36,5 +36,10 @@ impl Track {
     /// The sectors, in the order in which the track keeps them.
     pub fn sectors(&self) -> &[Sector] {
         &self.sectors
+    }
+
+    /// The same, to be changed.
+    pub fn sectors_mut(&mut self) -> &mut [Sector] {
+        &mut self.sectors
     }
 }

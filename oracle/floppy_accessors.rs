@@ -11,6 +11,27 @@ impl Floppy {
         self.disk.take()
     }
 
+    /// The inserted disk, to be changed.
+    pub fn disk_mut(&mut self) -> Option<&mut Disk> {
+        self.disk.as_mut()
+    }
+
+    /// Replaces the reply.
+    pub fn set_reply(&mut self, bytes: &[u8]) {
+        self.reply.set(bytes);
+    }
+
+    /// Drops the bytes of a command that is partly sent.
+    pub fn drop_command(&mut self) {
+        self.cmd.clear();
+    }
+
+    /// Has a write of no sector in progress, or none. Its bytes are not sent here.
+    pub fn set_writing(&mut self, on: bool) {
+        let [c, h, r, n] = [0; 4];
+        self.data_in = on.then(|| (0, SectorId { c, h, r, n }, 0, Vec::new()));
+    }
+
     /// What the ports do not show at once.
     pub fn boxes(&self) -> Boxes<'_> {
         Boxes {

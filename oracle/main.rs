@@ -10,6 +10,7 @@
 
 mod answers;
 mod capacities;
+mod datasheet;
 mod dsk;
 mod dump;
 mod errors;

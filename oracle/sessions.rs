@@ -5,6 +5,7 @@ mod changes;
 mod commands;
 mod damaged;
 mod data;
+mod datasheets;
 mod examples;
 mod formats;
 mod ids;
@@ -89,6 +90,7 @@ pub fn list() -> Vec<Session> {
     traffic::add(&mut list);
     sheets::add(&mut list);
     damaged::add(&mut list);
+    datasheets::add(&mut list);
     refusals::add(&mut list);
     list.sessions
 }

@@ -3,9 +3,10 @@
 use std::io::{self, Write};
 
 use raze::disk::Disk;
-use raze::floppy::{Boxes, Floppy};
+use raze::floppy::Boxes;
 
 use crate::capacities::{MOST_TRANSFER, Totals, transfer_refusal};
+use crate::datasheet::{Machine, Model};
 use crate::session::{Call, Hex, Session, Shown, Slot};
 use crate::sheet::Sheet;
 use crate::{Failure, dump, load};
@@ -19,25 +20,26 @@ const TRANSFER: u16 = 3;
 /// The controller, the disks that are not in its drive, and how many bytes of the
 /// transfer buffer are lent, which only counts where a sheet is read.
 struct Bench {
-    floppy: Floppy,
+    floppy: Model,
     slot: Slot,
     a: Option<Disk>,
     b: Option<Disk>,
     transfer: usize,
 }
 
-/// Prints what each call of the session answers, and what is left in the end.
+/// Prints what each call of the session answers, and what is left in the end: motor,
+/// track and disk, boxes, and both disks.
 pub fn print(session: &Session, out: &mut impl Write) -> Result<(), Failure> {
     let [a, b] = session.images();
     let mut bench = Bench {
-        floppy: Floppy::new(),
+        floppy: Model::new(Machine::Rust),
         slot: Slot::Empty,
         a: Some(load::disk(session.name(), a)?),
         b: Some(load::disk(session.name(), b)?),
         transfer: MOST_TRANSFER,
     };
     writeln!(out, "session {}", session.name())?;
-    for call in session.calls() {
+    for call in session.calls().iter().chain(&[Call::Ask, Call::Boxes]) {
         write!(out, "{call}")?;
         let done = bench.call(call, out)?;
         done.map_err(|fault| Failure::Stream(format!("{}: {call}: {fault}", session.name())))?;
@@ -52,6 +54,9 @@ impl Bench {
     fn call(&mut self, call: &Call, out: &mut impl Write) -> io::Result<Result<(), String>> {
         if self.transfer < MOST_TRANSFER && is_lent_transfer(call) {
             return Ok(Err("not all of the transfer buffer is lent".to_owned()));
+        }
+        if self.floppy.format().is_some() && matches!(call, Call::Boxes) {
+            return Ok(Err("boxes do not show a Format that takes IDs".to_owned()));
         }
         match call {
             Call::Put(slot) => self.put(*slot),
@@ -142,13 +147,8 @@ impl Bench {
         )
     }
 
-    /// Prints the controller and both disks as they are in the end.
+    /// Prints both disks as they are in the end.
     fn finish(mut self, out: &mut impl Write) -> io::Result<()> {
-        write!(out, "ask")?;
-        self.print_asked(out)?;
-        write!(out, "\nboxes")?;
-        print_boxes(&self.floppy.boxes(), out)?;
-        writeln!(out)?;
         self.put(Slot::Empty);
         for (name, disk) in [("a", self.a), ("b", self.b)] {
             writeln!(out, "disk {name}")?;

@@ -8,14 +8,17 @@ use super::Pair;
 use crate::capacities::MOST_TRANSFER;
 use crate::chance::Chance;
 use crate::host::CONTROLLER;
-use crate::view::{C1, COUNT, CYLINDER, FILL, HELD, PLACE, REPLY, View};
+use crate::view::{
+    C1, COUNT, CYLINDER, FILL, FORMAT, HELD, ID, KIND, PLACE, REPLY, SECTOR, TAKEN, View,
+};
 use crate::watch::{Checked, Difference};
 use crate::{faults, host};
 
-/// The numbers of the calls that are lent the transfer buffer, and of `new`, which
-/// is refused for a wrong length only.
-const LENT_TRANSFER: Range<usize> = 6..9;
-const NEW: usize = 9;
+/// The numbers of the calls that are lent the transfer buffer; how many calls there are
+/// but for the two that make a controller, and are refused for a wrong length only.
+const LENT_TRANSFER: Range<usize> = 7..10;
+const NEW: usize = 10;
+const CALLS: usize = NEW + 2;
 
 impl Pair<'_> {
     /// Whether a call that is lent the transfer buffer is refused, because the
@@ -67,7 +70,7 @@ impl Pair<'_> {
         let calls = if wrong.len() == CONTROLLER {
             0..NEW
         } else {
-            0..NEW + 1
+            0..CALLS
         };
         self.refuses(wrong, calls, chance)
     }
@@ -94,42 +97,48 @@ impl Pair<'_> {
             3 => ("set_disk", host::set_disk(controller, chance.byte())),
             4 => ("disk", host::disk(controller)),
             5 => ("status", host::read_status(controller)),
-            6 => {
+            6 => ("setting", host::setting(controller)),
+            7 => {
                 let transfer = self.transfer.part();
                 ("data read", host::read_cmd(controller, transfer))
             }
-            7 => {
+            8 => {
                 let (table, data) = (store.table.part_mut(), store.data.part_mut());
                 let transfer = self.transfer.part_mut();
                 let b = chance.byte();
                 let answer = host::write_cmd(controller, table, data, transfer, b);
                 ("byte sent", answer)
             }
-            8 => ("sheet written", self.write_impossible(chance)?),
-            _ => ("new", host::new(controller)),
+            9 => ("sheet written", self.write_impossible(chance)?),
+            NEW => ("new", host::new(controller)),
+            _ => ("new_with", host::new_with(controller, chance.byte())),
         };
         self.watch.call(name);
         Ok((name, answer))
     }
 
     /// Changes bytes of the controller that do not count: of a command, a reply and
-    /// a write behind their ends, and of a write where none is in progress.
+    /// a write behind their ends, of a write where none is in progress, and of a sector
+    /// or of a track where the write is of the other. What it is of stays a flag.
     pub fn scramble(&mut self, chance: &mut Chance) -> Checked {
         let bytes = &mut self.controller;
-        let noise = chance.bytes(bytes.len());
+        let mut noise = chance.bytes(bytes.len());
+        noise[KIND] &= 1;
         let count: usize = bytes[COUNT].into();
         let read = REPLY + usize::from(bytes[PLACE]);
         let filled = REPLY + usize::from(bytes[FILL]);
-        let held = View(bytes).held().map(|held| HELD + held.len());
-        let pending = if held.is_some() { CYLINDER } else { C1 };
+        let (pending, held) = match View(bytes).held() {
+            None => ([C1..CYLINDER, KIND..HELD], 0),
+            Some((SECTOR, held)) => ([0..0, FORMAT..HELD], held.len()),
+            Some((_, held)) => ([0..0, ID..TAKEN], held.len()),
+        };
         let dead = [
             count..COUNT,
             REPLY..read,
             filled..PLACE,
-            pending..CYLINDER,
-            held.unwrap_or(HELD)..bytes.len(),
+            HELD + held..bytes.len(),
         ];
-        for range in dead {
+        for range in dead.into_iter().chain(pending) {
             bytes[range.clone()].copy_from_slice(&noise[range]);
         }
         self.say("bytes of the controller that do not count are changed");

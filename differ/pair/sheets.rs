@@ -1,12 +1,13 @@
 //! Sheets: the library's controller written out and read back, beside the sheet of
 //! the Rust's boxes; and bytes that are read as a sheet, beside what they hold by the
-//! words of request 2026-01. The Rust has neither call.
+//! words of requests 2026-01 and 2026-06. The Rust has neither call.
 
 use std::mem;
 
 use super::Pair;
 use crate::buffer::Buffer;
 use crate::chance::Chance;
+use crate::datasheet::Machine;
 use crate::host::{self, CONTROLLER, SHEET};
 use crate::sheet::Sheet;
 use crate::view::DISK;
@@ -19,14 +20,18 @@ const SHORT: u8 = 13;
 
 impl Pair<'_> {
     /// Writes the library's controller out, and reads it back over buffers of noise,
-    /// if it can be written. The Rust goes on as it was.
+    /// if it can be written; now and then from the version before. The Rust goes on as it
+    /// was.
     pub fn pause(&mut self, chance: &mut Chance) -> Checked {
-        let sheet = self.sheet();
+        let mut sheet = self.sheet();
         if chance.once_in(4) {
             self.write_sheet(room(sheet.len(), chance), chance)?;
         }
         if self.write_sheet(sheet.len(), chance)? != 0 {
             return Ok(());
+        }
+        if self.rust.machine() == Machine::Rust && chance.once_in(4) {
+            sheet = Sheet::of(&self.rust).old_bytes();
         }
         self.transfer.renew(chance);
         self.read_wrongly(&sheet, chance)?;
@@ -57,7 +62,7 @@ impl Pair<'_> {
     /// Writes the library's controller, which cannot be, out to a buffer of noise, and
     /// compares that this stays. Answers the word.
     pub(super) fn write_impossible(&mut self, chance: &mut Chance) -> Checked<u64> {
-        let length = chance.of(&[0, 31, 2_000]);
+        let length = chance.of(&[0, 36, 2_000]);
         let mut paper = Buffer::new(length, 9, chance);
         let transfer = self.transfer.part();
         let answer = host::write_sheet(&self.controller, transfer, paper.part_mut());

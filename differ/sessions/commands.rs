@@ -1,6 +1,6 @@
 //! Commands by chance, whose parameters mostly name what is there.
 
-use super::{pauses, rooms};
+use super::{ids, pauses, rooms};
 use crate::chance::Chance;
 use crate::faults;
 use crate::pair::Pair;
@@ -34,7 +34,7 @@ fn again(pair: &mut Pair, b: u8, chance: &mut Chance) -> Checked<bool> {
 }
 
 /// A command, now and then broken off, or with its last byte sent to a broken
-/// table first.
+/// table first; with the IDs behind it, if it is a Format that takes some.
 pub fn any(pair: &mut Pair, chance: &mut Chance) -> Checked {
     let mut bytes = command(pair, chance);
     if chance.once_in(30) {
@@ -48,7 +48,7 @@ pub fn any(pair: &mut Pair, chance: &mut Chance) -> Checked {
     if !fault || broken(pair, last, chance)? != 0 {
         send_all(pair, &[last], chance)?;
     }
-    Ok(())
+    ids::perhaps(pair, chance)
 }
 
 /// Sends a byte with a table that breaks the layout.
@@ -152,8 +152,7 @@ fn format(c1: u8, chance: &mut Chance) -> Vec<u8> {
     vec![chance.of(&[0x0d, 0x4d]), c1, n, count, gap, filler]
 }
 
-/// A Write Data with its bytes; something may come between, and bytes may be too
-/// few.
+/// A Write Data with its bytes.
 pub fn write(pair: &mut Pair, chance: &mut Chance) -> Checked {
     let (c1, [c, h, r, n]) = sector(pair, chance);
     let first = chance.of(&[0x45, 0x45, 0x05, 0x85, 0xc5]);
@@ -162,22 +161,33 @@ pub fn write(pair: &mut Pair, chance: &mut Chance) -> Checked {
     let Some((_, _, left, _)) = pair.rust().boxes().write else {
         return Ok(());
     };
-    let part = chance.below(left + 1);
     let data = chance.bytes(left);
+    phase(pair, &data, chance)
+}
+
+/// Sends the bytes that a write or a Format takes; something may come between, and bytes
+/// may be too few.
+pub fn phase(pair: &mut Pair, data: &[u8], chance: &mut Chance) -> Checked {
+    let part = chance.below(data.len() + 1);
     if !send_all(pair, &data[..part], chance)? {
         return Ok(());
     }
-    match chance.below(9) {
+    match chance.below(10) {
         0 => pair.put(disk(pair, chance), 1)?,
-        1 => pair.status()?,
-        2 => pair.read()?,
+        1 => {
+            pair.status()?;
+        }
+        2 => {
+            pair.read()?;
+        }
         3 => rooms::change(pair, chance),
         4 => return Ok(()),
-        5 if part < left => {
+        5 if part < data.len() => {
             if broken(pair, data[part], chance)? == 0 {
                 return Ok(());
             }
         }
+        6 => pair.pause(chance)?,
         _ => {}
     }
     send_all(pair, &data[part..], chance)?;

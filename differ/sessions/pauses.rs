@@ -34,7 +34,7 @@ pub fn damaged(pair: &mut Pair, chance: &mut Chance) -> Checked {
 
 /// Takes up a sheet made by chance.
 pub fn take_up(pair: &mut Pair, chance: &mut Chance) -> Checked {
-    let bytes = made(pair, chance).bytes();
+    let bytes = sheets::bytes(&made(pair, chance), chance);
     resume(pair, &bytes, chance)
 }
 

@@ -1,6 +1,6 @@
 //! One turn of a session: a call, several of them, or a command.
 
-use super::{commands, pauses, rooms};
+use super::{commands, ids, pauses, rooms};
 use crate::chance::Chance;
 use crate::pair::Pair;
 use crate::watch::Checked;
@@ -35,7 +35,8 @@ pub fn traffic(pair: &mut Pair, chance: &mut Chance) -> Checked {
     }
 }
 
-/// A turn of a program that formats tracks, most of which are not there.
+/// A turn of a program that formats tracks, most of which are not there, with the IDs
+/// that it takes.
 pub fn formats(pair: &mut Pair, chance: &mut Chance) -> Checked {
     if chance.once_in(2) {
         return traffic(pair, chance);
@@ -48,7 +49,8 @@ pub fn formats(pair: &mut Pair, chance: &mut Chance) -> Checked {
     let (n, count) = (chance.small(4), chance.of(&[0, 0, 1, 2, 5, 255]));
     let head = chance.small(2) * 4;
     let bytes = [0x0f, 0, cylinder, 0x4d, head, n, count, 0x2a, 0xe5];
-    commands::send_all(pair, &bytes, chance).map(|_| ())
+    commands::send_all(pair, &bytes, chance)?;
+    ids::perhaps(pair, chance)
 }
 
 /// A turn of a program that sends any bytes.
@@ -87,8 +89,8 @@ fn byte(chance: &mut Chance) -> u8 {
     }
 }
 
-fn repeat(times: usize, mut call: impl FnMut() -> Checked) -> Checked {
-    (0..times).try_for_each(|_| call())
+fn repeat(times: usize, mut call: impl FnMut() -> Checked<u8>) -> Checked {
+    (0..times).try_for_each(|_| call().map(|_| ()))
 }
 
 /// Reads the status until no data is left, or long enough.
@@ -100,7 +102,7 @@ fn poll_empty(pair: &mut Pair, chance: &mut Chance) -> Checked {
         pauses::perhaps(pair, chance)?;
         pair.status()?;
     }
-    pair.status()
+    pair.status().map(|_| ())
 }
 
 /// Reads all data and the reply, now and then with the status before each.

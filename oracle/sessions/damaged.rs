@@ -1,13 +1,15 @@
 //! Bytes that are read as a sheet and are none, or hold what no controller has; and
 //! the good ones beside them. The Rust knows no sheets: which are refused is told by
-//! the words of request 2026-01 (`oracle/sheet.rs`).
+//! the words of requests 2026-01 and 2026-06 (`oracle/sheet.rs`).
 
 use raze::floppy::SectorId;
 
 use super::{List, no_tracks};
+use crate::datasheet::Machine;
 use crate::session::Call;
 use crate::sheet::{
-    self, BOXES, COMMAND, DATA, HEAD, LOST, MOTOR, REPLY, SEEK, Sheet, WRITE, Write,
+    self, BOXES, COMMAND, DATA, FORMAT, HEAD, LOST, MACHINE, MOTOR, OLD_VERSION, REPLY, SEEK,
+    Sheet, VERSION, WRITE, Write,
 };
 
 /// Adds the sessions with damaged sheets.
@@ -19,10 +21,14 @@ pub fn add(list: &mut List) {
     add_ranges(list);
     add_commands(list);
     add_writes(list);
+    add_old(list);
+    add_machines(list);
+    add_formats(list);
     add_rooms(list);
 }
 
-/// A good sheet with something in every box.
+/// A good sheet with something in every box but that of a Format, which none beside a
+/// write has.
 fn good() -> Sheet {
     Sheet {
         motor: true,
@@ -38,6 +44,8 @@ fn good() -> Sheet {
             id: ID,
             held: vec![9, 8, 7],
         }),
+        machine: Machine::DataSheet,
+        format: None,
     }
 }
 
@@ -84,13 +92,13 @@ fn add_cuts(list: &mut List) {
     let cuts = (0..bytes.len()).map(|length| bytes[..length].to_vec());
     add_all(list, "cut", cuts);
     let rest = &bytes[HEAD..];
-    let cuts = (0..rest.len()).map(|length| sheet::framed(1, &rest[..length]));
+    let cuts = (0..rest.len()).map(|length| sheet::framed(VERSION, &rest[..length]));
     add_all(list, "cut-with-its-length", cuts);
 }
 
 /// The version, the length of the rest, and bytes left over.
 fn add_frames(list: &mut List) {
-    let versions = [0, 2, 3, 4, 128, 255].map(|version| with_byte(0, version));
+    let versions = [0, OLD_VERSION, 3, 4, 128, 255].map(|version| with_byte(0, version));
     add_all(list, "version", versions);
     let rest = good().bytes().len() - HEAD;
     let lengths = [
@@ -104,14 +112,14 @@ fn add_frames(list: &mut List) {
     ];
     let lengths = lengths.map(|length| {
         let length = (length as u32).to_be_bytes();
-        [&[1], &length[..], &good().bytes()[HEAD..]].concat()
+        [&[VERSION], &length[..], &good().bytes()[HEAD..]].concat()
     });
     add_all(list, "length-of-the-rest", lengths);
     let over = [&[0][..], &[0, 0], &[1], &[0; 300]];
     let silent = over.map(|more| [&good().bytes(), more].concat());
     let counted = over.map(|more| {
         let rest = [&good().bytes()[HEAD..], more].concat();
-        sheet::framed(1, &rest)
+        sheet::framed(VERSION, &rest)
     });
     add_all(list, "left-over", silent.into_iter().chain(counted));
 }
@@ -133,7 +141,7 @@ fn add_box_lengths(list: &mut List) {
     let boxes = good().boxes();
     let sheets = boxes.iter().enumerate().flat_map(|(place, bytes)| {
         let longer = [&bytes[..], &[0]].concat();
-        let shorter = &bytes[..bytes.len() - 1];
+        let shorter = &bytes[..bytes.len().saturating_sub(1)];
         [with(place, &[]), with(place, shorter), with(place, &longer)]
     });
     let mut sheets: Vec<Vec<u8>> = sheets.collect();
@@ -144,7 +152,7 @@ fn add_box_lengths(list: &mut List) {
         let (place, width) = sheet::lengths(&good().boxes())[number];
         let bytes = good().bytes();
         let behind = place + width + good().boxes()[number].len();
-        sheet::framed(1, &[&bytes[HEAD..place], &bytes[behind..]].concat())
+        sheet::framed(VERSION, &[&bytes[HEAD..place], &bytes[behind..]].concat())
     });
     add_all(list, "boxes-missing", [whole].into_iter().chain(missing));
 }
@@ -211,6 +219,60 @@ fn add_writes(list: &mut List) {
     add_all(list, "writes", [&sizes[..], &short, &drives].concat());
 }
 
+/// The version before: whole, cut at every byte, with a byte and with boxes left over, and
+/// with its boxes under the version of today.
+fn add_old(list: &mut List) {
+    let whole = good().old_bytes();
+    let rest = &whole[HEAD..];
+    let more = &[&[0][..], &[0, 1, 0], &[0, 1, 0, 0, 0]];
+    let longer = more.map(|more| sheet::framed(OLD_VERSION, &[rest, more].concat()));
+    let cuts = (0..rest.len()).map(|length| sheet::framed(OLD_VERSION, &rest[..length]));
+    let today = sheet::framed(VERSION, rest);
+    let sheets = [whole.clone(), today].into_iter().chain(longer).chain(cuts);
+    add_all(list, "version-1", sheets);
+}
+
+/// The machine at its greatest, over it, and in more or fewer bytes.
+fn add_machines(list: &mut List) {
+    let machines = [&[0][..], &[1], &[2], &[255], &[], &[0, 0], &[0, 1]];
+    add_all(list, "machines", machines.map(|bytes| with(MACHINE, bytes)));
+}
+
+/// The sheet of a Format with these numbers and so many ID bytes, of this machine, with
+/// these bytes in the box of a write.
+fn format_of(numbers: [u8; 5], ids: usize, machine: u8, write: &[u8]) -> Vec<u8> {
+    let mut boxes = good().boxes();
+    boxes[WRITE] = write.to_vec();
+    boxes[MACHINE] = vec![machine];
+    boxes[FORMAT] = (0..ids).map(|place| place as u8).collect();
+    boxes[FORMAT].splice(0..0, numbers);
+    sheet::laid(&boxes)
+}
+
+/// Formats that lack IDs, that have all or more; boxes too short for the numbers; every
+/// drive; of the Rust machine, and beside a write. Boxes do not show a Format, but a sheet
+/// that is written does.
+fn add_formats(list: &mut List) {
+    let pending = |c1, count, ids| format_of([c1, 1, count, 0x2a, 0xe5], ids, 1, &[]);
+    let counts = [(0, 0), (0, 1), (1, 0), (1, 3), (1, 4), (1, 5), (9, 35)];
+    let counts = counts.map(|(count, ids)| pending(0, count, ids));
+    let most = [1_019, 1_020, 1_021].map(|ids| pending(4, 255, ids));
+    let drives = [0, 1, 2, 3, 4, 5, 6, 7, 0xfc, 0xfd].map(|c1| pending(c1, 2, 3));
+    let short = [1, 2, 3, 4, 5].map(|length| with(FORMAT, &[0, 1, 2, 0, 0][..length]));
+    let numbers = [0, 1, 2, 0x2a, 0xe5];
+    let beside = [0, 1].map(|machine| format_of(numbers, 2, machine, &[0, 0, 0, 1, 0]));
+    let alone = [0, 1].map(|machine| format_of(numbers, 2, machine, &[]));
+    let sheets = [&counts[..], &most, &drives, &short, &beside, &alone].concat();
+    let sheets = sheets.into_iter().chain([good().bytes()]);
+    let calls = sheets.flat_map(|sheet| [Call::Resume(sheet), Call::Sheet]);
+    let disks = [no_tracks(), no_tracks()];
+    list.add(
+        "sheet-damaged-formats",
+        disks,
+        &calls.collect::<Vec<Call>>(),
+    );
+}
+
 /// Unread data at and over the transfer room; a broken form is told first.
 fn add_rooms(list: &mut List) {
     let mut calls = Vec::new();
@@ -230,7 +292,7 @@ fn add_rooms(list: &mut List) {
         boxes[place] = vec![3];
         sheet::laid(&boxes)
     });
-    let version = sheet::framed(2, &over.bytes()[HEAD..]);
+    let version = sheet::framed(3, &over.bytes()[HEAD..]);
     let longer = [over.bytes(), vec![0]].concat();
     let sheets = broken.into_iter().chain([version, longer, over.bytes()]);
     calls.extend(sheets.flat_map(tried));

@@ -1,8 +1,10 @@
 //! Sessions that document 01 refuses in part. The Rust knows no refusals: what
 //! they show is written by hand, in oracle/refusals.txt.
 
+use super::datasheets::begin;
 use super::{A, B, FRESH, List, NONE, image, no_tracks, read, read_data, seek};
 use super::{send, send_times, status, track, write_data};
+use crate::datasheet::Machine;
 use crate::session::Call;
 
 /// Adds the sessions with refusals.
@@ -13,6 +15,7 @@ pub fn add(list: &mut List) {
     add_tracks(list);
     add_broken_stores(list);
     add_broken_store_in_a_write(list);
+    add_data_sheet(list);
     add_reply(list);
     add_command(list);
     add_data(list);
@@ -279,6 +282,35 @@ fn add_broken_store_in_a_write(list: &mut List) {
         tracks(1),
     ];
     list.add_one("refusal-2-at-the-end-of-a-write", no_tracks(), &calls);
+}
+
+/// Refusals 2 and 8 of a Format of the data-sheet machine: at its last ID byte, which may
+/// be sent again, or where it has none at the last byte of the command.
+fn add_data_sheet(list: &mut List) {
+    let calls = [
+        begin(Machine::DataSheet),
+        A,
+        lend_data(127),
+        tracks(205),
+        format(0, 1),
+        status(1),
+        send(&[0, 0, 1]),
+        send(&[0]),
+        tracks(0),
+        send(&[0]),
+        lend_data(128),
+        status(1),
+        send(&[0]),
+        status(1),
+        read(8),
+        tracks(205),
+        format(0, 0),
+        tracks(1),
+        send(&[0xe5]),
+        read(8),
+    ];
+    let disks = [no_tracks(), no_tracks()];
+    list.add("refusal-2-and-8-at-the-last-id", disks, &calls);
 }
 
 /// Every call, which all refuse.

@@ -99,7 +99,8 @@ fn add_noise(list: &mut List) {
     for number in 0..SESSIONS {
         let mut noise = Noise::new(5_000 + number);
         let disk = traffic::disk(&mut noise);
-        let calls: Vec<Call> = (0..SHEETS).flat_map(|_| taken_up(&mut noise)).collect();
+        let calls = (0..SHEETS).flat_map(|place| taken_up(place, &mut noise));
+        let calls: Vec<Call> = calls.collect();
         list.add(
             format!("sheet-by-noise-{number:02}"),
             [disk, no_tracks()],
@@ -108,8 +109,13 @@ fn add_noise(list: &mut List) {
     }
 }
 
-fn taken_up(noise: &mut Noise) -> Vec<Call> {
-    let sheet = made(noise).bytes();
+/// A sheet, every other one of the version before.
+fn taken_up(place: usize, noise: &mut Noise) -> Vec<Call> {
+    let made = made(noise);
+    let sheet = match place % 2 {
+        0 => made.bytes(),
+        _ => made.old_bytes(),
+    };
     let mut calls = vec![Call::Resume(sheet), Call::Boxes, Call::Sheet, A];
     if noise.below(3) > 0 {
         calls.push(send(&rest(noise)));
@@ -129,7 +135,7 @@ fn rest(noise: &mut Noise) -> Vec<u8> {
     (0..length).map(|_| below(noise, 3)).collect()
 }
 
-/// A sheet that may be.
+/// A sheet of the Rust machine that may be.
 fn made(noise: &mut Noise) -> Sheet {
     Sheet {
         motor: noise.below(2) == 0,
@@ -141,6 +147,7 @@ fn made(noise: &mut Noise) -> Sheet {
         data: data(noise),
         lost: below(noise, 3),
         write: write(noise),
+        ..Sheet::default()
     }
 }
 

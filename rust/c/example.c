@@ -166,7 +166,7 @@ int main(void)
     if (!lend())
         return EXIT_FAILURE;
     load();
-    answer(floppy_new(controller, controller_length));
+    answer(floppy_new_with(controller, controller_length, KAFONDIYE_RUST_MACHINE));
     answer(floppy_set_motor(controller, controller_length, 1));
     answer(floppy_set_disk(controller, controller_length, 1));
     find(id);

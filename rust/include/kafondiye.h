@@ -4,15 +4,17 @@
  *
  * All bytes are the host's. It lends them to each call, and the library keeps nothing between calls:
  *
- *   controller   floppy_controller_length() bytes, made by floppy_new or floppy_read_sheet; docs/HOST.md has their
- *                layout
- *   table        disk_table_length() bytes, and
+ *   controller   floppy_controller_length() bytes (1,072), made by floppy_new, floppy_new_with or floppy_read_sheet;
+ *                docs/HOST.md has their layout
+ *   table        disk_table_length() bytes (17,609), and
  *   data         bytes for the sectors' contents (room: its length, or 1,048,576 if that is less): together the
  *                store, which holds one disk; made by disk_new or disk_new_formatted; docs/STORE.md has the layout
  *   transfer     bytes for what a Read Data reads (room: its length, or 65,536 if that is less); lend the same ones
  *                until they are read
- *   sheet        a controller without its disk, written out to be kept, floppy_sheet_length() bytes at most;
+ *   sheet        a controller without its disk, written out to be kept, floppy_sheet_length() bytes at most (66,615);
  *                docs/SHEET.md has its form
+ *
+ * The lengths are those of this version. Ask for them rather than write them down: they may change with the next.
  *
  * A part is a pointer and a length. The pointer is not null, even where the length is 0, and no two parts overlap of
  * which one may be changed. A length that does not fit and bytes that cannot be are refused, so no call needs a
@@ -53,6 +55,16 @@ enum kafondiye_refusal {
     KAFONDIYE_BAD_SHEET = 11,       /* not a sheet, or no controller has what is in it */
     KAFONDIYE_NO_IMAGE = 12,        /* the disk has no extended image: see disk_image_length */
     KAFONDIYE_SHORT_BUFFER = 13     /* a buffer is too short for what would be written to it */
+};
+
+/*
+ * Which machine a controller is, bit 0 of its setting. The data-sheet machine takes the IDs of a Format's sectors
+ * behind the command, and replies 80 alone to an invalid command and to a Sense Interrupt Status with no seek running.
+ * All else is alike.
+ */
+enum kafondiye_machine {
+    KAFONDIYE_RUST_MACHINE = 0,
+    KAFONDIYE_DATA_SHEET_MACHINE = 1
 };
 
 /* The byte that a word answers, 0 where it answers none: bits 0 to 7. */
@@ -121,8 +133,14 @@ uint64_t disk_table_length(void);
 /* How many bytes the longest sheet has. Not a word but a plain number. */
 uint64_t floppy_sheet_length(void);
 
-/* Makes the bytes those of a new controller, with no disk in the drive. */
+/* Makes the bytes those of a new controller of the Rust machine, with no disk in the drive. */
 uint64_t floppy_new(uint8_t *controller, size_t length);
+
+/* The same with a setting, of which bit 0 is the machine: enum kafondiye_machine. Its other bits mean nothing yet. */
+uint64_t floppy_new_with(uint8_t *controller, size_t length, uint8_t setting);
+
+/* Answers the setting that the controller was made with. A sheet keeps it; one of version 1 is of the Rust machine. */
+uint64_t floppy_setting(const uint8_t *controller, size_t length);
 
 /* Switches the motor: 0 off, else on. No command depends on it. */
 uint64_t floppy_set_motor(uint8_t *controller, size_t length, uint8_t on);
@@ -135,7 +153,7 @@ uint64_t floppy_current_track(const uint8_t *controller, size_t length);
 
 /*
  * Says whether a disk is in the drive: 0 none, else the one whose store is lent from now on. Nothing else changes: a
- * write in progress ends on the disk that is in when its last byte comes.
+ * write in progress, and a Format that takes IDs, end on the disk that is in when their last byte comes.
  */
 uint64_t floppy_set_disk(uint8_t *controller, size_t length, uint8_t present);
 
@@ -152,8 +170,9 @@ uint64_t floppy_read_status(uint8_t *controller, size_t length);
 uint64_t floppy_read_cmd(uint8_t *controller, size_t length, const uint8_t *transfer, size_t transfer_length);
 
 /*
- * Sends a byte to the data port: of a command, or of the data of a write. A refused byte is not taken and may be
- * sent again, with more room. With no disk in the drive table and data are not looked at and may have length 0.
+ * Sends a byte to the data port: of a command, of the data of a write, or of the IDs of a Format. A refused byte is not
+ * taken and may be sent again, with more room. With no disk in the drive table and data are not looked at and may have
+ * length 0.
  *
  * The last byte of a Read Data or Read Deleted, of a Write Data and of the data of a write tells which sector of its
  * track was found (of a read, the first; at the end of a write, on the disk that is in then): kafondiye_place_in_track,

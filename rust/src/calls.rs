@@ -1,6 +1,6 @@
 //! The exported calls with their words taken apart: a byte, a flag, a length or a sector, or the refusal.
 
-use crate::{Match, Refusal, Report, SectorId, words};
+use crate::{Machine, Match, Refusal, Report, SectorId, words};
 
 /// How many bytes a controller has.
 pub fn controller_length() -> usize {
@@ -17,9 +17,14 @@ pub fn sheet_length() -> usize {
     length(words::sheet_length())
 }
 
-/// Makes the bytes those of a new controller.
-pub fn new(controller: &mut [u8]) -> Result<(), Refusal> {
-    done(words::new(controller))
+/// Makes the bytes those of a new controller of this machine.
+pub fn new_with(controller: &mut [u8], machine: Machine) -> Result<(), Refusal> {
+    done(words::new_with(controller, machine.setting()))
+}
+
+/// Which machine a controller is.
+pub fn machine(controller: &[u8]) -> Result<Machine, Refusal> {
+    answer(words::setting(controller)).map(Machine::of_setting)
 }
 
 /// Switches the motor.
@@ -187,9 +192,9 @@ mod tests {
 
     #[test]
     fn lengths_are_those_of_the_documents() {
-        assert_eq!(controller_length(), 1_066);
+        assert_eq!(controller_length(), 1_072);
         assert_eq!(table_length(), 17_609);
-        assert_eq!(sheet_length(), 66_610);
+        assert_eq!(sheet_length(), 66_615);
     }
 
     #[test]
@@ -199,9 +204,11 @@ mod tests {
         let mut data = [0; 1];
         let image = [0; 12];
         let new = vec![0; controller_length()];
-        let mut sheet = [0; 30];
+        let mut sheet = [0; 35];
         let words = [
             words::new(&mut own),
+            words::new_with(&mut own, 1),
+            words::setting(&own),
             words::motor(&own),
             words::geometry(&table[1..], &data),
             words::disk_new(&image[1..], &mut table, &mut data),
@@ -213,17 +220,49 @@ mod tests {
             words::write_image(&table[1..], &data, &mut sheet),
             words::write_image(&table, &data, &mut sheet),
         ];
-        let numbers = [1, 1, 2, 3, 4, 8, 1, 13, 2, 2, 13];
+        let numbers = [1, 1, 1, 1, 2, 3, 4, 8, 1, 13, 2, 2, 13];
         assert_eq!(words, numbers.map(|number| number << 8));
     }
 
     #[test]
     fn a_sheet_stands_at_the_buffers_start_and_the_bytes_behind_it_stay() {
         let new = vec![0; controller_length()];
-        let mut sheet = [7; 32];
-        assert_eq!(words::write_sheet(&new, &[], &mut sheet), 31 << 32);
-        assert_eq!(sheet[..5], [1, 0, 0, 0, 26]);
-        assert_eq!(sheet[31], 7);
+        let mut sheet = [7; 37];
+        assert_eq!(words::write_sheet(&new, &[], &mut sheet), 36 << 32);
+        assert_eq!(sheet[..5], [2, 0, 0, 0, 31]);
+        assert_eq!(sheet[36], 7);
+    }
+
+    #[test]
+    fn a_new_controller_is_zeros_but_for_the_setting_of_which_bit_0_counts() {
+        for (setting, machine) in [(0, 0), (1, 1), (2, 0), (0xfe, 0), (0xff, 1)] {
+            let mut own = vec![5; controller_length()];
+            assert_eq!(words::new_with(&mut own, setting), 0);
+            assert_eq!(words::setting(&own), machine);
+            assert_eq!(std::mem::take(&mut own[42]), machine as u8);
+            assert_eq!(own, vec![0; controller_length()]);
+        }
+    }
+
+    #[test]
+    fn a_format_that_no_controller_has_is_1() {
+        // Setting, what the write in progress is of, c1, sectors, and how many bytes are held.
+        let cases = [
+            ([1, 1, 0, 1, 0], 0),
+            ([1, 1, 4, 9, 35], 0),
+            ([1, 1, 0, 9, 36], 1),
+            ([1, 1, 0, 0, 0], 1),
+            ([1, 1, 1, 1, 0], 1),
+            ([0, 1, 0, 1, 0], 1),
+            ([2, 0, 0, 0, 0], 1),
+            ([1, 2, 0, 1, 0], 1),
+        ];
+        for ([setting, of, c1, sectors, held], number) in cases {
+            let mut own = vec![0; controller_length()];
+            (own[42], own[31], own[43]) = (setting, 1, of);
+            (own[32], own[45], own[37]) = (c1, sectors, held);
+            assert_eq!(words::motor(&own), number << 8);
+        }
     }
 
     /// The image of a disk without tracks: the text, no cylinder and one side.
@@ -261,12 +300,13 @@ mod tests {
     }
 
     /// The sheet of a controller that is new but for two unread bytes, 8 and 9.
-    const TWO_UNREAD: [u8; 33] = [
-        1, 0, 0, 0, 28, // version, length of the rest
+    const TWO_UNREAD: [u8; 38] = [
+        2, 0, 0, 0, 33, // version, length of the rest
         0, 1, 0, 0, 1, 0, 0, 1, 0, 0, 2, 0, 0, // motor, cylinder, seek state, ID index
         0, 0, 0, 0, // no command, no reply
         0, 0, 0, 2, 8, 9, // unread data
         0, 1, 0, 0, 0, // lost count, no write
+        0, 1, 0, 0, 0, // the Rust machine, no Format
     ];
 
     #[test]
@@ -283,7 +323,7 @@ mod tests {
     #[test]
     fn a_sheet_is_refused_with_1_then_11_then_9_and_no_byte_changes() {
         let mut bad = TWO_UNREAD;
-        bad[0] = 2;
+        bad[0] = 3;
         let length = controller_length();
         let cases = [
             (length - 1, bad, 1),

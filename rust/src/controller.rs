@@ -3,7 +3,7 @@
 use std::fmt;
 use std::mem;
 
-use crate::{Disk, Refusal, Report, calls};
+use crate::{Disk, Machine, Refusal, Report, calls};
 
 /// Why a call on a controller is not refused with 1: its bytes were made by the library, new or from a sheet
 /// (`new-formed`, `sheet-formed`), nobody else alters them, and the transfer room grows only, or is judged again. Over
@@ -27,24 +27,66 @@ impl Controller {
     /// The largest transfer room that a controller can use, in bytes.
     pub const LARGEST_TRANSFER_ROOM: usize = 65_536;
 
-    /// A new controller, with no disk and the largest transfer room.
+    /// A new controller of the Rust machine, with no disk and the largest transfer room.
     pub fn new() -> Controller {
-        Controller::with_transfer_room(Controller::LARGEST_TRANSFER_ROOM)
+        Controller::new_with(Machine::Rust)
     }
 
-    /// A new controller whose transfer buffer, in which the bytes of a Read Data lie until they are read, has
-    /// this many bytes, or [`LARGEST_TRANSFER_ROOM`](Controller::LARGEST_TRANSFER_ROOM) if that is less.
+    /// A new controller of this machine, with no disk and the largest transfer room.
+    ///
+    /// ```
+    /// use kafondiye::{Controller, Disk, Machine, Match, Refusal, SectorId};
+    ///
+    /// fn main() -> Result<(), Refusal> {
+    ///     let mut controller = Controller::new_with(Machine::DataSheet);
+    ///     controller.set_disk(Some(Disk::new_formatted()));
+    ///
+    ///     // Format: drive 0, head 0, two sectors of 512 bytes,
+    ///     for byte in [0x4d, 0x00, 0x02, 0x02, 0x52, 0xe5] {
+    ///         controller.write_cmd(byte)?;
+    ///     }
+    ///     // and their IDs, C1 and C2.
+    ///     for byte in [0x00, 0x00, 0xc1, 0x02, 0x00, 0x00, 0xc2, 0x02] {
+    ///         assert_eq!(controller.read_status()?, 0xb0);
+    ///         controller.write_cmd(byte)?;
+    ///     }
+    ///     assert_eq!(controller.read_status()?, 0xd0);
+    ///     let disk = controller.disk().expect("the disk that is in");
+    ///     let last = SectorId { c: 0, h: 0, r: 0xc2, n: 2 };
+    ///     assert_eq!(disk.has_sector(0, 0, last), Some(Match { place: 2, count: 1 }));
+    ///     Ok(())
+    /// }
+    /// ```
+    pub fn new_with(machine: Machine) -> Controller {
+        Controller::made(machine, Controller::LARGEST_TRANSFER_ROOM)
+    }
+
+    /// A new controller of the Rust machine whose transfer buffer, in which the bytes of a Read Data lie until they
+    /// are read, has this many bytes, or [`LARGEST_TRANSFER_ROOM`](Controller::LARGEST_TRANSFER_ROOM) if that is less.
+    /// For the other machine, make one [with it](Controller::new_with) and
+    /// [set](Controller::set_transfer_room) the room.
     pub fn with_transfer_room(room: usize) -> Controller {
+        Controller::made(Machine::Rust, room)
+    }
+
+    /// A new controller of this machine with this transfer room, or the largest if that is less.
+    fn made(machine: Machine, room: usize) -> Controller {
         let room = room.min(Controller::LARGEST_TRANSFER_ROOM);
         let mut bytes = vec![0; calls::controller_length() + room];
-        calls::new(&mut bytes[..calls::controller_length()])
+        calls::new_with(&mut bytes[..calls::controller_length()], machine)
             .expect("a new controller has the length that the library calls for");
         Controller { bytes, disk: None }
     }
 
+    /// Which machine it is: the one that it was made with, or that of its sheet.
+    pub fn machine(&self) -> Machine {
+        calls::machine(self.parts().0).expect(GOOD)
+    }
+
     /// The controller written out as a sheet, for a session that goes on later: motor, cylinder, seek state, ID
-    /// index, a command that is partly sent, unread reply and data, lost count, and a write in progress with its
-    /// bytes so far. Controllers with the same in them have the same sheet. `docs/SHEET.md` has its form.
+    /// index, a command that is partly sent, unread reply and data, lost count, a write in progress with its bytes so
+    /// far, the machine, and a Format in progress with its IDs so far. Controllers with the same in them have the same
+    /// sheet. `docs/SHEET.md` has its form.
     ///
     /// It says nothing of the disk, of which [`table`](Disk::table) and [`data`](Disk::data) are to be kept beside
     /// it, nor of the transfer room.
@@ -95,7 +137,8 @@ impl Controller {
     }
 
     /// The controller of a sheet, with no disk in the drive and the largest transfer room. Once its disk is
-    /// [put in](Controller::set_disk), it goes on as the one that gave the sheet would have.
+    /// [put in](Controller::set_disk), it goes on as the one that gave the sheet would have. A sheet of version 1,
+    /// which says nothing of a machine, is read as the [Rust machine](Machine::Rust).
     ///
     /// [`Refusal::BadSheet`] where the bytes are not a sheet, [`Refusal::NoTransferRoom`] where its unread data have
     /// more than 65,536 bytes, as those of no controller have.
@@ -151,7 +194,7 @@ impl Controller {
     /// Puts a disk into the drive, or none, and hands back the one that was there, with all changes made to it.
     ///
     /// Nothing else changes: a command that is half sent, unread data and a write in progress are carried over,
-    /// and the write ends on the disk that is in the drive when its last byte comes.
+    /// and the write ends on the disk that is in the drive when its last byte comes. So does a Format that takes IDs.
     pub fn set_disk(&mut self, disk: Option<Disk>) -> Option<Disk> {
         calls::set_disk(self.parts_mut().0, disk.is_some()).expect(GOOD);
         mem::replace(&mut self.disk, disk)
@@ -178,15 +221,17 @@ impl Controller {
         calls::read_cmd(own, transfer)
     }
 
-    /// Sends a byte to the data port: of a command, or of the data of a write. Where it ends a Read Data, a Read
-    /// Deleted, a Write Data or a write, the [`Report`] says which sector of its track was found.
+    /// Sends a byte to the data port: of a command, of the data of a write, or of the IDs that a Format of the
+    /// [data-sheet machine](Machine::DataSheet) takes. Where it ends a Read Data, a Read Deleted, a Write Data or a
+    /// write, the [`Report`] says which sector of its track was found.
     ///
-    /// Only the last byte of a command or of a write can be refused: with [`Refusal::NoTransferRoom`], or with
-    /// [`Refusal::TooManyTracks`], [`Refusal::TooManySectors`] or [`Refusal::NoRoom`] where the disk would grow too
-    /// large. It is not taken then. It may be sent again, after
+    /// Only the last byte of a command, of a write or of a Format's IDs can be refused: with
+    /// [`Refusal::NoTransferRoom`], or with [`Refusal::TooManyTracks`], [`Refusal::TooManySectors`] or
+    /// [`Refusal::NoRoom`] where the disk would grow too large. It is not taken then. It may be sent again, after
     /// [`set_transfer_room`](Controller::set_transfer_room), or after the disk was taken out, given more
     /// [room](Disk::set_room) and put in again. To be rid of a command that no room can serve, send its last byte
-    /// while the disk is out: the controller replies that the drive is not ready, and no disk changes.
+    /// while the disk is out: the controller replies that the drive is not ready, or after data or IDs what it replies
+    /// with a disk, and no disk changes.
     ///
     /// ```
     /// use kafondiye::{Controller, Disk, Match, Refusal};
@@ -240,6 +285,7 @@ impl Default for Controller {
 impl fmt::Debug for Controller {
     fn fmt(&self, f: &mut fmt::Formatter<'_>) -> fmt::Result {
         f.debug_struct("Controller")
+            .field("machine", &self.machine())
             .field("motor", &self.motor())
             .field("current_track", &self.current_track())
             .field("disk", &self.disk)

@@ -18,8 +18,13 @@ unsafe extern "C" {
     /// How many bytes a disk's table has.
     pub fn disk_table_length() -> u64;
 
-    /// Makes the bytes those of a new controller.
+    /// Makes the bytes those of a new controller, of the Rust machine.
     pub fn floppy_new(controller: *mut u8, length: usize) -> u64;
+    /// Makes the bytes those of a new controller with this setting, of which bit 0 counts: 0 the Rust machine, 1 the
+    /// data-sheet machine.
+    pub fn floppy_new_with(controller: *mut u8, length: usize, setting: u8) -> u64;
+    /// Answers the setting that the controller was made with.
+    pub fn floppy_setting(controller: *const u8, length: usize) -> u64;
     /// Switches the motor: 0 off, else on.
     pub fn floppy_set_motor(controller: *mut u8, length: usize, on: u8) -> u64;
     /// Answers 1 where the motor is on.

@@ -32,6 +32,8 @@
 //! A byte that is taken answers a [`Report`]: beside what the ports show, it says which sector of its track was served,
 //! where an ID may stand more than once.
 //!
+//! A controller is one of two [machines](Machine): as raze has it, or as the data sheet has Format and what is invalid.
+//!
 //! A session starts with a new controller, or with one that is taken up from its [sheet](Controller::to_sheet);
 //! nothing else is carried over from one controller to another, because the library keeps nothing between calls.
 
@@ -44,6 +46,7 @@ mod controller;
 mod disk;
 #[allow(unsafe_code)]
 mod ffi;
+mod machine;
 mod refusal;
 mod report;
 #[allow(unsafe_code)]
@@ -51,5 +54,6 @@ mod words;
 
 pub use controller::Controller;
 pub use disk::{Disk, SectorId};
+pub use machine::Machine;
 pub use refusal::Refusal;
 pub use report::{Match, Report};

@@ -5,8 +5,8 @@ use std::fmt;
 
 /// Why a call was refused. Whatever the reason, the call has changed nothing.
 ///
-/// The numbers are those of the exported calls. Numbers 10 and 12 are missing, because no call answers them: 10
-/// belongs to a program that lists images.
+/// The numbers are those of the exported calls. Number 10 is missing, because no call answers it: it belongs to a
+/// program that lists images.
 #[derive(Clone, Copy, Debug, PartialEq, Eq, Hash)]
 #[non_exhaustive]
 #[repr(u8)]

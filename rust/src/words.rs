@@ -22,9 +22,20 @@ pub fn sheet_length() -> u64 {
     unsafe { ffi::floppy_sheet_length() }
 }
 
-/// Makes the bytes those of a new controller.
+/// Makes the bytes those of a new controller, of the Rust machine.
+#[allow(dead_code)] // the crate names a machine each time; the differential runs make this call as well
 pub fn new(controller: &mut [u8]) -> u64 {
     unsafe { ffi::floppy_new(controller.as_mut_ptr(), controller.len()) }
+}
+
+/// Makes the bytes those of a new controller with this setting.
+pub fn new_with(controller: &mut [u8], setting: u8) -> u64 {
+    unsafe { ffi::floppy_new_with(controller.as_mut_ptr(), controller.len(), setting) }
+}
+
+/// The setting that a controller was made with.
+pub fn setting(controller: &[u8]) -> u64 {
+    unsafe { ffi::floppy_setting(controller.as_ptr(), controller.len()) }
 }
 
 /// Switches the motor: 0 off, else on.

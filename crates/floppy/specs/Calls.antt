@@ -13,14 +13,16 @@ use Rattle.registers.specs.declared.regs.Byte.{Byte}
 use Rattle.registers.specs.declared.regs.Seek.the-variants.{Idle}
 use Rattle.registers.specs.declared.regs.Receipt.{Receipt}
 use Rattle.registers.specs.declared.regs.Switched.{Switched}
+use Rattle.registers.specs.declared.regs.Setting.{Setting}
 use Rattle.registers.specs.declared.regs.Told.{Told}
+use Rattle.registers.specs.Settle.{noPending}
 use Rattle.registers.specs.Calls.{statusRead, dataRead}
 use Rattle.commands.specs.Lent.{Left, left}
 use Rattle.sending.specs.Calls.{dataWrite}
 
--- `Floppy::new`: no number but 0, no flag but off
-unfoldable pub newFloppy : Floppy
-newFloppy = record {
+-- `Floppy::new_with`: no number but 0, no flag but off; `Floppy::new` has the Rust machine
+unfoldable pub newFloppy : Setting → Floppy
+newFloppy x = record {
   regs = record {
     command = replicate 9 0;
     count = 0;
@@ -32,8 +34,9 @@ newFloppy = record {
     lost = 0;
     motor = false;
     index = 0;
-    write = record { on = false; c1 = 0; id = record { c = 0; h = 0; r = 0; n = 0 }; taken = 0 };
+    write = noPending;
     drive = record { cylinder = 0; seek = Idle; disk = false };
+    setting = x;
   };
   held = replicate mostHeld 0;
 }

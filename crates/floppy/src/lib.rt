@@ -1,17 +1,20 @@
 // The floppy controller uPD765A, over a disk that is kept in a lent table and a lent data buffer. What is read lies in a lent transfer buffer.
 use fields::HELD;
-use fields::SectorId;
 use registers::Byte;
+use registers::Choice;
 use registers::Drive;
 use registers::Flag;
+use registers::Machine;
 use registers::Pending;
 use registers::Receipt;
 use registers::Regs;
 use registers::Seek;
+use registers::Setting;
 use store::Done;
 ghost use mathlib.Core.Path.{_≡_};
 ghost use Rattle.floppy.specs.Calls.{newFloppy, shown, sentAs, changedAs, wrote, statusCall, readCall, writeCall};
-ghost use Rattle.registers.specs.Calls.{motorSet, diskSet, motorOf, currentTrack, diskIn};
+ghost use Rattle.registers.specs.Boxes.{rustMachine};
+ghost use Rattle.registers.specs.Calls.{motorSet, diskSet, motorOf, currentTrack, diskIn, settingIn};
 
 // A controller: its registers, and beside them the bytes of an unfinished write.
 pub struct Floppy {
@@ -38,21 +41,19 @@ pub struct Changed {
 }
 
 impl Floppy {
+    // A new controller with the Rust machine.
     pub fn new() -> Floppy
-        ensures { λ r. ⌜ r ≡ newFloppy ⌝ }
+        ensures { λ r. ⌜ r ≡ newFloppy rustMachine ⌝ }
     {
-        let id = SectorId {
-            c: 0,
-            h: 0,
-            r: 0,
-            n: 0,
+        let setting = Setting {
+            machine: Machine::Rust,
         };
-        let write = Pending {
-            on: false,
-            c1: 0,
-            id,
-            taken: 0,
-        };
+        Floppy::new_with(setting)
+    }
+
+    pub fn new_with(setting: Setting) -> Floppy
+        ensures { λ r. ⌜ r ≡ newFloppy setting ⌝ }
+    {
         let drive = Drive {
             cylinder: 0,
             seek: Seek::Idle,
@@ -69,8 +70,9 @@ impl Floppy {
             lost: 0,
             motor: false,
             index: 0,
-            write,
+            write: Pending::none(),
             drive,
+            setting,
         };
         Floppy {
             regs,
@@ -110,6 +112,14 @@ impl Floppy {
     {
         let regs = self.regs;
         regs.disk()
+    }
+
+    // What the controller was made with.
+    pub fn setting(self) -> Choice
+        ensures { λ r. ⌜ r ≡ settingIn (self .regs) ⌝ }
+    {
+        let regs = self.regs;
+        regs.setting()
     }
 
     // Another disk is in the drive, the one in the store that is lent from now on, or none. All else is carried over, a write in progress included.

@@ -170,6 +170,17 @@ sought s r = regsWithDrive (record { cylinder = r .drive .cylinder; seek = s; di
 
 -- ---- How a byte is taken
 
+-- no write in progress, all numbers 0
+abbrev pub noPending : Pending
+noPending = record {
+  on = false;
+  c1 = 0;
+  id = record { c = 0; h = 0; r = 0; n = 0 };
+  taken = 0;
+  track = false;
+  shape = record { size = 0; sectors = 0; gap = 0; filler = 0 };
+}
+
 -- a write that is in progress or not, with so many bytes held
 abbrev pub pendingWith : Bool → ℕ → Pending → Pending
 pendingWith on n p = record { on = on; c1 = p .c1; id = p .id; taken = n; track = p .track; shape = p .shape }

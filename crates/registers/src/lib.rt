@@ -3,6 +3,7 @@ mod port;
 mod regs;
 
 pub use regs::Byte;
+pub use regs::Choice;
 pub use regs::Drive;
 pub use regs::Flag;
 pub use regs::Machine;

@@ -1,5 +1,6 @@
 // Reads of the two ports, and the calls that ask or change one box.
 use crate::regs::Byte;
+use crate::regs::Choice;
 use crate::regs::Drive;
 use crate::regs::Flag;
 use crate::regs::Regs;
@@ -17,7 +18,7 @@ ghost use Rattle.store.specs.Store.{transferRoom};
 ghost use Rattle.registers.specs.Ports.{phase, seekBit, settled, pollBy};
 ghost use Rattle.registers.specs.View.{impossibleIn};
 ghost use Rattle.registers.specs.Settle.{sought};
-ghost use Rattle.registers.specs.Calls.{statusOf, regsPolled, afterStatusOf, statusRead, dataRead, motorSet, diskSet, motorOf, currentTrack, diskIn};
+ghost use Rattle.registers.specs.Calls.{statusOf, regsPolled, afterStatusOf, statusRead, dataRead, motorSet, diskSet, motorOf, currentTrack, diskIn, settingIn};
 
 impl Seek {
     fn bit(self) -> u8
@@ -183,6 +184,17 @@ impl Regs {
             return Flag::Refused(Refusal::BadController);
         }
         Flag::Of(self.drive.disk)
+    }
+
+    // What the controller was made with.
+    pub fn setting(self) -> Choice
+        ensures { λ r. ⌜ r ≡ settingIn self ⌝ }
+    {
+        if self.impossible() {
+            return Choice::Refused(Refusal::BadController);
+        }
+        let setting = self.setting;
+        Choice::Of(setting)
     }
 
     // Another disk, or none: all else is carried over.

@@ -15,7 +15,7 @@ ghost use Rattle.fields.specs.Capacities.{mostHeld};
 ghost use Rattle.codes.specs.Table.{commandOf, bytesFor};
 ghost use Rattle.registers.specs.Boxes.{IntoSector, IntoTrack, wholeOf, silent, serves, fitted, seven, Add, Hold, Clear, Turn, Start, Finish, MoveTo};
 ghost use Rattle.registers.specs.View.{isRust, goalOf, impossible, wrongWrite};
-ghost use Rattle.registers.specs.Settle.{accepted, declined, driveNamed, replied, regsWithDrive, pendingWith, regsTaken, regsChanged, kept};
+ghost use Rattle.registers.specs.Settle.{accepted, declined, driveNamed, replied, regsWithDrive, noPending, pendingWith, regsTaken, regsChanged, kept};
 
 // The state of the last seek.
 pub enum Seek {
@@ -91,6 +91,12 @@ pub enum Flag {
     Refused(Refusal),
 }
 
+// What a controller was made with, or why there is no answer.
+pub enum Choice {
+    Of(Setting),
+    Refused(Refusal),
+}
+
 // What a port read answers, with the registers then.
 pub struct Told {
     pub answer: Byte,
@@ -140,6 +146,32 @@ impl Setting {
 }
 
 impl Pending {
+    // No write in progress.
+    pub fn none() -> Pending
+        ensures { λ r. ⌜ r ≡ noPending ⌝ }
+    {
+        let id = SectorId {
+            c: 0,
+            h: 0,
+            r: 0,
+            n: 0,
+        };
+        let shape = Shape {
+            size: 0,
+            sectors: 0,
+            gap: 0,
+            filler: 0,
+        };
+        Pending {
+            on: false,
+            c1: 0,
+            id,
+            taken: 0,
+            track: false,
+            shape,
+        }
+    }
+
     // How many bytes it takes.
     pub fn whole(self) -> usize
         ensures { λ r. ⌜ (r ≡ wholeOf (goalOf self)) × (r ≤ mostHeld) ⌝ }

@@ -17,10 +17,11 @@ use Rattle.store.specs.Find.{found}
 use Rattle.store.specs.Search.{sectorAt, matchAt}
 use Rattle.disk.specs.Change.{withContent, saved}
 use Rattle.codes.specs.declared.command.Command.the-variants.{SeekTo, WriteData}
+use Rattle.registers.specs.declared.regs.Setting.{Setting}
 use Rattle.registers.specs.Boxes.{Rooms, Holds, Inside, World, named, serves, Finish, changed, allChanged, putIn}
 use Rattle.codes.specs.Table.{commandOf, commandBy, rows}
 use Rattle.codes.specs.Second.{driveOf, headOf}
-use Rattle.commands.specs.Commands.{puts, seekIf, startAt, writeData, writeReply, saveAt, written, obeyed}
+use Rattle.commands.specs.Commands.{puts, seekIf, startAt, writeData, writeReply, saveAt, writtenSector, writtenInto, obeyed}
 use Rattle.saves.specs.Events.{Event, run}
 use Rattle.saves.specs.Stages.{Stage, acted}
 use Rattle.saves.specs.Words.{inDrive, Ready, Address, Save, bytesOf, addressOf, IsSave, savedAt, savedBy, Sends, Only}
@@ -34,50 +35,51 @@ pub drive-0 : (c1 c : ℕ) (d : Disk) → driveOf c1 ≡ 0 → named c1 (driveOv
 unfolding named
 drive-0 c1 c d e = rw (eq-eqb (driveOf c1) 0 e)
 
-module _ (s : Rooms) (m : Bool) (x : ℕ) (d : Disk) where
-  seek-fed : (c c1 cylinder : ℕ) (bs : List ℕ) → driveOf c1 ≡ 0 → fed s (0x0F ∷ c1 ∷ cylinder ∷ bs) (partly m c x d []) ≡ fed s bs (partly m cylinder x d [])
+module _ (s : Rooms) (σ : Setting) (m : Bool) (x : ℕ) (d : Disk) where
+  seek-fed : (c c1 cylinder : ℕ) (bs : List ℕ) → driveOf c1 ≡ 0 → fed s (0x0F ∷ c1 ∷ cylinder ∷ bs) (partly σ m c x d []) ≡ fed s bs (partly σ m cylinder x d [])
   unfolding obeyed seekIf commandOf commandBy rows changed allChanged putIn
   seek-fed c c1 cylinder bs e =
-      command-fed s m c x d 0x0F SeekTo refl c1 (cylinder ∷ []) bs refl ∙ rw (drive-0 c1 c d e)
+      command-fed s σ m c x d 0x0F SeekTo refl c1 (cylinder ∷ []) bs refl ∙ rw (drive-0 c1 c d e)
 
   write-fed : (c code c1 : ℕ) (id : SectorId) (eot gap dtl : ℕ) (bs : List ℕ) (k : ℕ) (z : Sector) → commandOf code ≡ WriteData → driveOf c1 ≡ 0
       → sectorAt d (headOf c1) c id ≡ found k z
-      → fed s (code ∷ c1 ∷ id .c ∷ id .h ∷ id .r ∷ id .n ∷ eot ∷ gap ∷ dtl ∷ bs) (partly m c x d []) ≡ fed s bs (writing m c x d c1 id [])
+      → fed s (code ∷ c1 ∷ id .c ∷ id .h ∷ id .r ∷ id .n ∷ eot ∷ gap ∷ dtl ∷ bs) (partly σ m c x d []) ≡ fed s bs (writing σ m c x d c1 id [])
   unfolding obeyed writeData startAt changed allChanged putIn
   write-fed c code c1 id eot gap dtl bs k z e f g =
-      command-fed s m c x d code WriteData e c1 (id .c ∷ id .h ∷ id .r ∷ id .n ∷ eot ∷ gap ∷ dtl ∷ []) bs refl
+      command-fed s σ m c x d code WriteData e c1 (id .c ∷ id .h ∷ id .r ∷ id .n ∷ eot ∷ gap ∷ dtl ∷ []) bs refl
       ∙ rw (drive-0 c1 c d f, g)
 
   -- the disk then, or 8
   abbrev After : ℕ → Disk → Result Inside
-  After c new = need (leb (byteCount new) (s .room)) NoRoom (good (partly m c x new []))
+  After c new = need (leb (byteCount new) (s .room)) NoRoom (good (partly σ m c x new []))
 
   written-is : (c c1 : ℕ) (id : SectorId) (bytes : List ℕ) (k : ℕ) (z : Sector) → driveOf c1 ≡ 0 → sectorAt d (headOf c1) c id ≡ found k z
-      → after (Written s m c x d c1 id bytes) (λ e. good (effected e (writing m c x d c1 id bytes))) ≡ After c (saved (headOf c1) c id bytes d)
-  unfolding written saveAt changed allChanged putIn
+      → after (Written s σ m c x d c1 id bytes) (λ e. good (effected e (writing σ m c x d c1 id bytes))) ≡ After c (saved (headOf c1) c id bytes d)
+  unfolding writtenInto writtenSector saveAt changed allChanged putIn
   written-is c c1 id bytes k z f g = rw (drive-0 c1 c d f, g) (go (leb (byteCount (saved (headOf c1) c id bytes d)) (s .room)))
     where
       go : (v : Bool)
-          → after (need v NoRoom (puts (serves (matchAt d (headOf c1) c id)) (Finish ∷ []) (saved (headOf c1) c id bytes d) (writeReply (record { c1 = c1; id = id; held = bytes }))))
-          (λ e. good (effected e (writing m c x d c1 id bytes)))
-          ≡ need v NoRoom (good (partly m c x (saved (headOf c1) c id bytes d) []))
+          → after (need v NoRoom (puts (serves (matchAt d (headOf c1) c id)) (Finish ∷ []) (saved (headOf c1) c id bytes d) (writeReply c1 id)))
+          (λ e. good (effected e (writing σ m c x d c1 id bytes)))
+          ≡ need v NoRoom (good (partly σ m c x (saved (headOf c1) c id bytes d) []))
       go true = refl
       go false = refl
 
   content-fed : (c c1 : ℕ) (id : SectorId) (bytes : List ℕ) (k : ℕ) (z : Sector) → length bytes ≡ sizeOf (id .n) → driveOf c1 ≡ 0 → sectorAt d (headOf c1) c id ≡ found k z
-      → fed s bytes (writing m c x d c1 id []) ≡ After c (saved (headOf c1) c id bytes d)
+      → fed s bytes (writing σ m c x d c1 id []) ≡ After c (saved (headOf c1) c id bytes d)
   content-fed c c1 id [] k z n f g = absurd (omega (arith, size-pos (id .n)))
-  content-fed c c1 id (b ∷ r) k z n f g = data-fed s m c x d c1 id [] b r (omega arith) ∙ written-is c c1 id (b ∷ r) k z f g
+  content-fed c c1 id (b ∷ r) k z n f g = data-fed s σ m c x d c1 id [] b r (omega arith) ∙ written-is c c1 id (b ∷ r) k z f g
 
-  save-fed : (c : ℕ) (a : Save) → IsSave a d → fed s (bytesOf a) (partly m c x d []) ≡ After (a .cylinder) (savedBy a d)
+  save-fed : (c : ℕ) (a : Save) → IsSave a d → fed s (bytesOf a) (partly σ m c x d []) ≡ After (a .cylinder) (savedBy a d)
   unfolding bytesOf addressOf savedAt
   save-fed c a h =
       seek-fed c (a .seekC1) (a .cylinder) _ (h .seeks-drive-0)
       ∙ write-fed (a .cylinder) (a .code) (a .c1) (a .id) (a .eot) (a .gap) (a .dtl) (a .content) (h .place) (h .sector) (h .writes) (h .writes-drive-0) (h .there)
       ∙ content-fed (a .cylinder) (a .c1) (a .id) (a .content) (h .place) (h .sector) (h .as-many) (h .writes-drive-0) (h .there)
 
-ready-is : (w : World) (d : Disk) → Ready w d → w .inside ≡ partly (w .inside .motor) (w .inside .drives .first .cylinder) (w .inside .index) d []
+ready-is : (w : World) (d : Disk) → Ready w d → w .inside ≡ partly (w .inside .setting) (w .inside .motor) (w .inside .drives .first .cylinder) (w .inside .index) d []
 ready-is w d h k = record {
+  setting = w .inside .setting;
   motor = w .inside .motor;
   index = w .inside .index;
   command = h .nothing-sent k;
@@ -87,14 +89,14 @@ ready-is w d h k = record {
 
 -- inside, after a save: the head has moved, and the disk is the one that the save leaves; the rooms stay
 pub saved-inside : (a : Save) (d : Disk) (g : Stage) (es : List Event) → Ready (g .world) d → IsSave a d → Sends es (bytesOf a) (run acted es g .answers)
-    → run acted es g .end .world .inside ≡ partly (g .world .inside .motor) (a .cylinder) (g .world .inside .index) (savedBy a d) []
+    → run acted es g .end .world .inside ≡ partly (g .world .inside .setting) (g .world .inside .motor) (a .cylinder) (g .world .inside .index) (savedBy a d) []
 saved-inside a d g es ready save made =
     let s : Rooms = g .rooms in
     let w : World = g .world in
-    let i : Inside = partly (w .inside .motor) (w .inside .drives .first .cylinder) (w .inside .index) d [] in
+    let i : Inside = partly (w .inside .setting) (w .inside .motor) (w .inside .drives .first .cylinder) (w .inside .index) d [] in
     let e : fed s (bytesOf a) i ≡ good (run acted es g .end .world .inside) = ap (fed s (bytesOf a)) (sym (ready-is w d ready)) ∙ run-fed es g (bytesOf a) (made .sends) (made .grants) .inside in
-    let n = need-good (leb (byteCount (savedBy a d)) (s .room)) NoRoom (good (partly (w .inside .motor) (a .cylinder) (w .inside .index) (savedBy a d) [])) (run acted es g .end .world .inside)
-    (sym (save-fed s (w .inside .motor) (w .inside .index) d (w .inside .drives .first .cylinder) a save) ∙ e) in
+    let n = need-good (leb (byteCount (savedBy a d)) (s .room)) NoRoom (good (partly (w .inside .setting) (w .inside .motor) (a .cylinder) (w .inside .index) (savedBy a d) [])) (run acted es g .end .world .inside)
+    (sym (save-fed s (w .inside .setting) (w .inside .motor) (w .inside .index) d (w .inside .drives .first .cylinder) a save) ∙ e) in
     cc (n .1)
 
 -- and the next one may begin

@@ -12,7 +12,8 @@ use Rattle.fields.specs.Refusals.{Result, refused, good, after}
 use Rattle.fields.specs.Model.{sizeOf, Disk}
 use Rattle.fields.specs.declared.id.SectorId.{SectorId}
 use Rattle.codes.specs.declared.command.Command.{Command}
-use Rattle.registers.specs.Boxes.{Rooms, Holds, Drives, Inside, World, Add, Hold, Effect, Sent, named, taken, changed, allChanged, putIn}
+use Rattle.registers.specs.declared.regs.Setting.{Setting}
+use Rattle.registers.specs.Boxes.{IntoSector, Rooms, Holds, Drives, Inside, World, Add, Hold, Effect, Sent, named, taken, changed, allChanged, putIn}
 use Rattle.codes.specs.Table.{commandOf, bytesFor}
 use Rattle.registers.specs.Ports.{afterStatus, afterRead}
 use Rattle.commands.specs.Commands.{byte, obeyed, written}
@@ -109,60 +110,60 @@ abbrev pub driveOver : ℕ → Disk → Drives
 driveOver c d = record { first = record { cylinder = c; slot = Holds (good d) } }
 
 -- no write in progress, a disk in, and so much of a command sent
-abbrev pub partly : Bool → ℕ → ℕ → Disk → List ℕ → Inside
-partly m c x d command = record { motor = m; index = x; command = command; write = none; drives = driveOver c d }
+abbrev pub partly : Setting → Bool → ℕ → ℕ → Disk → List ℕ → Inside
+partly σ m c x d command = record { setting = σ; motor = m; index = x; command = command; write = none; drives = driveOver c d }
 
 -- a write in progress
-abbrev pub writing : Bool → ℕ → ℕ → Disk → ℕ → SectorId → List ℕ → Inside
-writing m c x d c1 id held =
-    record { motor = m; index = x; command = []; write = some (record { c1 = c1; id = id; held = held }); drives = driveOver c d }
+abbrev pub writing : Setting → Bool → ℕ → ℕ → Disk → ℕ → SectorId → List ℕ → Inside
+writing σ m c x d c1 id held =
+    record { setting = σ; motor = m; index = x; command = []; write = some (record { c1 = c1; goal = IntoSector id; held = held }); drives = driveOver c d }
 
-module _ (s : Rooms) (m : Bool) (c x : ℕ) (d : Disk) where
+module _ (s : Rooms) (σ : Setting) (m : Bool) (c x : ℕ) (d : Disk) where
   module _ (p : List ℕ) (b : ℕ) (k : Command) (first : commandOf (byte (p ++ (b ∷ [])) 0) ≡ k) where
     -- a command that is not yet whole waits
-    step-part : (length (p ++ (b ∷ [])) ≡ bytesFor k → ⊥) → stepped s (partly m c x d p) b ≡ good (partly m c x d (p ++ (b ∷ [])))
+    step-part : (length (p ++ (b ∷ [])) ≡ bytesFor k → ⊥) → stepped s (partly σ m c x d p) b ≡ good (partly σ m c x d (p ++ (b ∷ [])))
     unfolding stepped sent byteFor commandByte commandIf taken allChanged putIn
     step-part n = rw (first, ne-eqb (length (p ++ (b ∷ []))) (bytesFor k) n)
 
     -- and one that is whole is obeyed
     step-whole : length (p ++ (b ∷ [])) ≡ bytesFor k
-        → stepped s (partly m c x d p) b ≡ after (obeyed s k (p ++ (b ∷ [])) (driveOver c d) x) (λ e. good (effected e (partly m c x d [])))
+        → stepped s (partly σ m c x d p) b ≡ after (obeyed σ s k (p ++ (b ∷ [])) (driveOver c d) x) (λ e. good (effected e (partly σ m c x d [])))
     unfolding stepped sent byteFor commandByte commandIf
-    step-whole n = rw (first, eq-eqb (length (p ++ (b ∷ []))) (bytesFor k) n) (cleared (obeyed s k (p ++ (b ∷ [])) (driveOver c d) x))
+    step-whole n = rw (first, eq-eqb (length (p ++ (b ∷ []))) (bytesFor k) n) (cleared (obeyed σ s k (p ++ (b ∷ [])) (driveOver c d) x))
       where
-        cleared : (e : Result Effect) → after (sends (Add b) (clearing e)) (λ y. good (effected (y .effect) (taken (y .taking) (partly m c x d p)))) ≡ after e (λ y. good (effected y (partly m c x d [])))
+        cleared : (e : Result Effect) → after (sends (Add b) (clearing e)) (λ y. good (effected (y .effect) (taken (y .taking) (partly σ m c x d p)))) ≡ after e (λ y. good (effected y (partly σ m c x d [])))
         cleared (refused why) = refl
         cleared (good e) = unfold taken allChanged changed in refl
 
   rest-fed : (f : ℕ) (k : Command) → commandOf f ≡ k → (p : List ℕ) (b : ℕ) (r bs : List ℕ) → suc (length p) + suc (length r) ≡ bytesFor k
-      → fed s (b ∷ (r ++ bs)) (partly m c x d (f ∷ p)) ≡ after (after (obeyed s k (f ∷ (p ++ (b ∷ r))) (driveOver c d) x) (λ e. good (effected e (partly m c x d [])))) (λ j. fed s bs j)
+      → fed s (b ∷ (r ++ bs)) (partly σ m c x d (f ∷ p)) ≡ after (after (obeyed σ s k (f ∷ (p ++ (b ∷ r))) (driveOver c d) x) (λ e. good (effected e (partly σ m c x d [])))) (λ j. fed s bs j)
   unfolding fed
   rest-fed f k e p b [] bs n = ap (λ (y : Result Inside). after y (λ j. fed s bs j)) (step-whole (f ∷ p) b k e (simp length-append (omega arith)))
   rest-fed f k e p b (b′ ∷ r) bs n =
       let z : (p ++ (b ∷ [])) ++ (b′ ∷ r) ≡ p ++ (b ∷ (b′ ∷ r)) = append-snoc p b (b′ ∷ r) in
       ap (λ (y : Result Inside). after y (λ j. fed s (b′ ∷ (r ++ bs)) j)) (step-part (f ∷ p) b k e (simp length-append (omega arith)))
       ∙ rest-fed f k e (p ++ (b ∷ [])) b′ r bs (simp length-append (omega arith))
-      ∙ ap (λ (l : List ℕ). after (after (obeyed s k (f ∷ l) (driveOver c d) x) (λ e. good (effected e (partly m c x d [])))) (λ j. fed s bs j)) z
+      ∙ ap (λ (l : List ℕ). after (after (obeyed σ s k (f ∷ l) (driveOver c d) x) (λ e. good (effected e (partly σ m c x d [])))) (λ j. fed s bs j)) z
 
   -- a command of two bytes or more
   pub command-fed : (f : ℕ) (k : Command) → commandOf f ≡ k → (b : ℕ) (r bs : List ℕ) → suc (suc (length r)) ≡ bytesFor k
-      → fed s (f ∷ (b ∷ (r ++ bs))) (partly m c x d []) ≡ after (after (obeyed s k (f ∷ (b ∷ r)) (driveOver c d) x) (λ e. good (effected e (partly m c x d [])))) (λ j. fed s bs j)
+      → fed s (f ∷ (b ∷ (r ++ bs))) (partly σ m c x d []) ≡ after (after (obeyed σ s k (f ∷ (b ∷ r)) (driveOver c d) x) (λ e. good (effected e (partly σ m c x d [])))) (λ j. fed s bs j)
   unfolding fed
   command-fed f k e b r bs n =
       ap (λ (y : Result Inside). after y (λ j. fed s (b ∷ (r ++ bs)) j)) (step-part [] f k e (omega arith))
       ∙ rest-fed f k e [] b r bs (omega arith)
 
   more-fed : (f : ℕ) (k : Command) → commandOf f ≡ k → (p r : List ℕ) → suc (length p) + length r < bytesFor k
-      → fed s r (partly m c x d (f ∷ p)) ≡ good (partly m c x d (f ∷ (p ++ r)))
+      → fed s r (partly σ m c x d (f ∷ p)) ≡ good (partly σ m c x d (f ∷ (p ++ r)))
   unfolding fed
-  more-fed f k e p [] n = ap (λ (l : List ℕ). good (partly m c x d (f ∷ l))) (sym (append-nil p))
+  more-fed f k e p [] n = ap (λ (l : List ℕ). good (partly σ m c x d (f ∷ l))) (sym (append-nil p))
   more-fed f k e p (b ∷ r) n =
       ap (λ (y : Result Inside). after y (λ j. fed s r j)) (step-part (f ∷ p) b k e (simp length-append (omega arith)))
       ∙ more-fed f k e (p ++ (b ∷ [])) r (simp length-append (omega arith))
-      ∙ ap (λ (l : List ℕ). good (partly m c x d (f ∷ l))) (append-snoc p b r)
+      ∙ ap (λ (l : List ℕ). good (partly σ m c x d (f ∷ l))) (append-snoc p b r)
 
   -- a command of which bytes are still to come
-  pub part-fed : (f : ℕ) (k : Command) → commandOf f ≡ k → (r : List ℕ) → suc (length r) < bytesFor k → fed s (f ∷ r) (partly m c x d []) ≡ good (partly m c x d (f ∷ r))
+  pub part-fed : (f : ℕ) (k : Command) → commandOf f ≡ k → (r : List ℕ) → suc (length r) < bytesFor k → fed s (f ∷ r) (partly σ m c x d []) ≡ good (partly σ m c x d (f ∷ r))
   unfolding fed
   part-fed f k e r n = ap (λ (y : Result Inside). after y (λ j. fed s r j)) (step-part [] f k e (omega arith)) ∙ more-fed f k e [] r (omega arith)
 
@@ -170,19 +171,19 @@ module _ (s : Rooms) (m : Bool) (c x : ℕ) (d : Disk) where
 
   module _ (c1 : ℕ) (id : SectorId) where
     abbrev pub Written : List ℕ → Result Effect
-    Written held = written s (record { c1 = c1; id = id; held = held }) (named c1 (driveOver c d))
+    Written held = written s (record { c1 = c1; goal = IntoSector id; held = held }) (named c1 (driveOver c d))
 
-    data-part : (held : List ℕ) (b : ℕ) → (length (held ++ (b ∷ [])) ≡ sizeOf (id .n) → ⊥) → stepped s (writing m c x d c1 id held) b ≡ good (writing m c x d c1 id (held ++ (b ∷ [])))
+    data-part : (held : List ℕ) (b : ℕ) → (length (held ++ (b ∷ [])) ≡ sizeOf (id .n) → ⊥) → stepped s (writing σ m c x d c1 id held) b ≡ good (writing σ m c x d c1 id (held ++ (b ∷ [])))
     unfolding stepped sent byteFor dataByte dataIf taken allChanged putIn
     data-part held b n = rw (ne-eqb (length (held ++ (b ∷ []))) (sizeOf (id .n)) n)
 
     data-whole : (held : List ℕ) (b : ℕ) → length (held ++ (b ∷ [])) ≡ sizeOf (id .n)
-        → stepped s (writing m c x d c1 id held) b
-        ≡ after (Written (held ++ (b ∷ []))) (λ e. good (effected e (writing m c x d c1 id (held ++ (b ∷ [])))))
+        → stepped s (writing σ m c x d c1 id held) b
+        ≡ after (Written (held ++ (b ∷ []))) (λ e. good (effected e (writing σ m c x d c1 id (held ++ (b ∷ [])))))
     unfolding stepped sent byteFor dataByte dataIf
     data-whole held b n = rw (eq-eqb (length (held ++ (b ∷ []))) (sizeOf (id .n)) n) (held-all (Written (held ++ (b ∷ []))))
       where
-        held-all : (e : Result Effect) → after (sends (Hold b) e) (λ y. good (effected (y .effect) (taken (y .taking) (writing m c x d c1 id held)))) ≡ after e (λ y. good (effected y (writing m c x d c1 id (held ++ (b ∷ [])))))
+        held-all : (e : Result Effect) → after (sends (Hold b) e) (λ y. good (effected (y .effect) (taken (y .taking) (writing σ m c x d c1 id held)))) ≡ after e (λ y. good (effected y (writing σ m c x d c1 id (held ++ (b ∷ [])))))
         held-all (refused why) = refl
         held-all (good e) = unfold taken in refl
 
@@ -193,11 +194,11 @@ module _ (s : Rooms) (m : Bool) (c x : ℕ) (d : Disk) where
 
     -- the bytes of a write: with the last one it is done
     pub data-fed : (held : List ℕ) (b : ℕ) (r : List ℕ) → length held + suc (length r) ≡ sizeOf (id .n)
-        → fed s (b ∷ r) (writing m c x d c1 id held)
-        ≡ after (Written (held ++ (b ∷ r))) (λ e. good (effected e (writing m c x d c1 id (held ++ (b ∷ r)))))
+        → fed s (b ∷ r) (writing σ m c x d c1 id held)
+        ≡ after (Written (held ++ (b ∷ r))) (λ e. good (effected e (writing σ m c x d c1 id (held ++ (b ∷ r)))))
     unfolding fed
-    data-fed held b [] n = after-good (stepped s (writing m c x d c1 id held) b) ∙ data-whole held b (simp length-append (omega arith))
+    data-fed held b [] n = after-good (stepped s (writing σ m c x d c1 id held) b) ∙ data-whole held b (simp length-append (omega arith))
     data-fed held b (b′ ∷ r) n =
         ap (λ (y : Result Inside). after y (λ j. fed s (b′ ∷ r) j)) (data-part held b (simp length-append (omega arith)))
         ∙ data-fed (held ++ (b ∷ [])) b′ r (simp length-append (omega arith))
-        ∙ ap (λ (l : List ℕ). after (Written l) (λ e. good (effected e (writing m c x d c1 id l)))) (append-snoc held b (b′ ∷ r))
+        ∙ ap (λ (l : List ℕ). after (Written l) (λ e. good (effected e (writing σ m c x d c1 id l)))) (append-snoc held b (b′ ∷ r))

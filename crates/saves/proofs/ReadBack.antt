@@ -19,6 +19,7 @@ use Rattle.store.specs.Store.{contents}
 use Rattle.disk.specs.Change.{withContent}
 use Rattle.disk.specs.Calls.{endOf}
 use Rattle.codes.specs.declared.command.Command.the-variants.{ReadData}
+use Rattle.registers.specs.declared.regs.Setting.{Setting}
 use Rattle.registers.specs.Boxes.{Rooms, Inside, Front, World, Add, Serve, Sent, serves, responded}
 use Rattle.registers.specs.declared.regs.Report.{Report}
 use Rattle.codes.specs.Table.{commandOf}
@@ -111,7 +112,7 @@ module _ (room : ℕ) (told : Report) (bytes reply : List ℕ) where
       (sym e) (served v g b) ok
 
 -- the last byte of a Read Data that finds one sector
-module _ (s : Rooms) (m : Bool) (c x : ℕ) (new : Disk) (code c1 : ℕ) (id : SectorId) (eot gap dtl : ℕ) (z : Sector) where
+module _ (s : Rooms) (σ : Setting) (m : Bool) (c x : ℕ) (new : Disk) (code c1 : ℕ) (id : SectorId) (eot gap dtl : ℕ) (z : Sector) where
   abbrev Nine : List ℕ
   Nine = code ∷ c1 ∷ id .c ∷ id .h ∷ id .r ∷ id .n ∷ eot ∷ gap ∷ dtl ∷ []
 
@@ -119,7 +120,7 @@ module _ (s : Rooms) (m : Bool) (c x : ℕ) (new : Disk) (code c1 : ℕ) (id : S
   Reply = readReply false Nine (length (contents (z ∷ []))) (sizesOf (z ∷ [])) (z .st1 .bits) (z .st2 .bits)
 
   last-sent : commandOf code ≡ ReadData → driveOf c1 ≡ 0 → readAt new (headOf c1) c id eot ≡ z ∷ []
-      → sent s (partly m c x new (code ∷ c1 ∷ id .c ∷ id .h ∷ id .r ∷ id .n ∷ eot ∷ gap ∷ [])) dtl
+      → sent s (partly σ m c x new (code ∷ c1 ∷ id .c ∷ id .h ∷ id .r ∷ id .n ∷ eot ∷ gap ∷ [])) dtl
       ≡ sends (Add dtl) (clearing (need (leb (length (contents (z ∷ []))) (s .transfer)) NoTransferRoom (tells (serves (matchAt new (headOf c1) c id)) [] (Serve (contents (z ∷ [])) Reply))))
   unfolding sent byteFor commandByte commandIf obeyed readData servedAs
   last-sent e f g = rw (e, drive-0 c1 c new f, g)
@@ -169,22 +170,23 @@ pub read-back : (a : Save) (d : Disk) (code c1 eot gap dtl : ℕ) (g : Stage) (e
     → givenIn (run acted gs r .answers) ≡ take (dataReads gs) (a .content ++ replyTo a c1 eot (save .sector))
 unfolding readBytes replyTo
 read-back a d code c1 eot gap dtl g es fs gs ready save made back began last none-lost few =
+    let σ : Setting = g .world .inside .setting in
     let m : Bool = g .world .inside .motor in
     let x : ℕ = g .world .inside .index in
     let p : Stage = run acted es g .end in
     let q : Stage = run acted fs p .end in
     let eight : List ℕ = code ∷ c1 ∷ a .id .c ∷ a .id .h ∷ a .id .r ∷ a .id .n ∷ eot ∷ gap ∷ [] in
-    let i : Inside = partly m (a .cylinder) x (savedBy a d) eight in
+    let i : Inside = partly σ m (a .cylinder) x (savedBy a d) eight in
     let f = run-fed fs p eight (began .sends) (began .grants) in
     let e : good (q .world .inside) ≡ good i
     = sym (f .inside) ∙ ap (fed (p .rooms) eight) (saved-inside a d g es ready save made)
-    ∙ part-fed (p .rooms) m (a .cylinder) x (savedBy a d) code ReadData (back .reads) (c1 ∷ a .id .c ∷ a .id .h ∷ a .id .r ∷ a .id .n ∷ eot ∷ gap ∷ []) (omega arith) in
+    ∙ part-fed (p .rooms) σ m (a .cylinder) x (savedBy a d) code ReadData (back .reads) (c1 ∷ a .id .c ∷ a .id .h ∷ a .id .r ∷ a .id .n ∷ eot ∷ gap ∷ []) (omega arith) in
     let inside-is : q .world .inside ≡ i = cc in
     let z : Sector = withContent (a .content) (save .sector) in
     let sent-is = ap (λ (j : Inside). sent (q .rooms) j dtl) inside-is
-    ∙ last-sent (q .rooms) m (a .cylinder) x (savedBy a d) code c1 (a .id) eot gap dtl z (back .reads) (back .drive-0) (kept-read a d c1 eot save (back .same-head) (back .alone)) in
+    ∙ last-sent (q .rooms) σ m (a .cylinder) x (savedBy a d) code c1 (a .id) eot gap dtl z (back .reads) (back .drive-0) (kept-read a d c1 eot save (back .same-head) (back .alone)) in
     let front = serves-them (q .rooms .transfer) _ (contents (z ∷ [])) _ (leb (length (contents (z ∷ []))) (q .rooms .transfer)) q dtl sent-is (last .grants) in
     handed gs (run acted (send dtl ∷ []) q .end) (a .content) (replyTo a c1 eot (save .sector))
     (front .0 ∙ kept-bytes a d c1 eot save)
-    (front .1 ∙ last-reply (q .rooms) m (a .cylinder) x (savedBy a d) code c1 (a .id) eot gap dtl z (kept-long a d c1 eot save))
+    (front .1 ∙ last-reply (q .rooms) σ m (a .cylinder) x (savedBy a d) code c1 (a .id) eot gap dtl z (kept-long a d c1 eot save))
     none-lost (unfold replyTo in few)

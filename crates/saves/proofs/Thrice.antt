@@ -17,9 +17,9 @@ use Rattle.store.specs.Calls.{within, hasOf}
 use Rattle.store.specs.declared.answer.Has.the-variants.{Yes}
 use Rattle.disk.specs.Change.{change, saved, setTrack}
 use Rattle.codes.specs.Table.{maskRows, rows, commandBy, commandOf}
-use Rattle.registers.specs.Boxes.{Holds, Empty, Slot, newWorld, named, taken, changed, allChanged, putIn, responded, silent, serves}
+use Rattle.registers.specs.Boxes.{rustMachine, Holds, Empty, Slot, newWorld, named, taken, changed, allChanged, putIn, responded, silent, serves}
 use Rattle.registers.specs.Ports.{changeDisk}
-use Rattle.commands.specs.Commands.{missing, seekIf, servedAs, readData, readReply, startAt, writeData, writeReply, saveAt, written, idGiven, readId, formatTrack, obeyed}
+use Rattle.commands.specs.Commands.{missing, seekIf, servedAs, readData, readReply, startAt, writeData, writeReply, saveAt, writtenSector, writtenInto, idGiven, readId, laysTrack, formatAtOnce, formatTrack, obeyed}
 use Rattle.sending.specs.Machine.{commandIf, commandByte, dataIf, dataByte, byteFor, sent, done, writePort, reportOf}
 use Rattle.saves.specs.Events.{Answer, took, Run, run}
 use Rattle.saves.specs.Stages.{Stage, withWorld, acted}
@@ -58,9 +58,9 @@ filling n = replicate n 0xAA
 
 -- ---- what is told
 
--- a new controller, with a drive
+-- a new controller with the Rust machine, and a drive
 abbrev with : Slot → Stage
-with slot = record { rooms = record { room = mostData; transfer = mostTransfer }; world = changeDisk slot newWorld }
+with slot = record { rooms = record { room = mostData; transfer = mostTransfer }; world = changeDisk slot (newWorld rustMachine) }
 
 abbrev sentAll : Stage → List ℕ → Run Answer Stage
 sentAll g l = run acted (sendAll l) g
@@ -92,7 +92,7 @@ pub record Thrice : Type 0 where
   pub has : hasOf (good thrice) 0 0 (number 1) ≡ Yes (record { place = 1; count = 3 })
 
 pub thrice-told : Thrice
-unfolding run acted sendAll changeDisk newWorld named taken changed allChanged putIn responded maskRows rows commandBy commandOf seekIf missing startAt writeData writeReply saveAt written idGiven readId formatTrack obeyed commandIf commandByte dataIf dataByte byteFor sent done writePort reportOf formatted idsFrom blanks sizeOf sectorAt matchAt sectorByIndex byIndex findFrom change saved setTrack total runFrom readAt contents servedAs readData within
+unfolding run acted sendAll changeDisk newWorld named taken changed allChanged putIn responded maskRows rows commandBy commandOf seekIf missing startAt writeData writeReply saveAt writtenSector writtenInto idGiven readId laysTrack formatAtOnce formatTrack obeyed commandIf commandByte dataIf dataByte byteFor sent done writePort reportOf formatted idsFrom blanks sizeOf sectorAt matchAt sectorByIndex byIndex findFrom change saved setTrack total runFrom readAt contents servedAs readData within
 thrice-told = record {
   read = refl;
   other = refl;

@@ -27,7 +27,7 @@ unfolding changed
 changed-slot Clear i = refl
 changed-slot (MoveTo c) i = refl
 changed-slot Turn i = refl
-changed-slot (Start c1 id) i = refl
+changed-slot (Start c1 g) i = refl
 changed-slot Finish i = refl
 
 all-slot : (xs : List Change) (i : Inside) → slotIn (allChanged xs i) ≡ slotIn i

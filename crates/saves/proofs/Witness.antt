@@ -18,10 +18,11 @@ use Rattle.store.specs.Search.{sectorAt, runFrom, readAt}
 use Rattle.store.specs.Store.{contents}
 use Rattle.store.specs.Fresh.{blank, blanks, formatted, freshFrom, fresh}
 use Rattle.disk.specs.Change.{change, saved}
+use Rattle.registers.specs.declared.regs.Setting.{Setting}
 use Rattle.registers.specs.Boxes.{Holds, World, newWorld, named, taken, changed, allChanged, putIn, responded}
 use Rattle.codes.specs.Table.{maskRows, rows, commandBy, commandOf}
 use Rattle.registers.specs.Ports.{afterRead, changeDisk}
-use Rattle.commands.specs.Commands.{seekIf, servedAs, readData, startAt, writeData, writeReply, saveAt, written, obeyed}
+use Rattle.commands.specs.Commands.{seekIf, servedAs, readData, startAt, writeData, writeReply, saveAt, writtenSector, writtenInto, obeyed}
 use Rattle.sending.specs.Machine.{commandIf, commandByte, dataIf, dataByte, byteFor, sent, done, writePort, reportOf}
 use Rattle.saves.specs.Events.{Event, read, send, Answer, run, granted}
 use Rattle.saves.specs.Stages.{Stage, acted}
@@ -29,9 +30,9 @@ use Rattle.saves.specs.Words.{inDrive, Ready, Address, Save, bytesOf, ad
 use Rattle.saves.proofs.Demand.{save-touches, second-alone, either-order}
 use Rattle.saves.proofs.ReadBack.{read-back}
 
--- a new controller with a fresh disk in, and all the room that there can be
-abbrev pub start : Stage
-start = record { rooms = record { room = mostData; transfer = mostTransfer }; world = changeDisk (Holds (good fresh)) newWorld }
+-- a new controller of either machine with a fresh disk in, and all the room that there can be
+abbrev pub start : Setting → Stage
+start σ = record { rooms = record { room = mostData; transfer = mostTransfer }; world = changeDisk (Holds (good fresh)) (newWorld σ) }
 
 -- a save to cylinder 7: 512 bytes to a sector
 abbrev with : ℕ → ℕ → Save
@@ -84,20 +85,20 @@ abbrev pub L : List Event
 L = send 0xFF ∷ []
 
 -- what is granted: the save, another to the same sector behind it and alone, another to the next sector behind it and before it, and the Read Data
-pub record Grants : Type 0 where
-  pub first : granted (run acted E start .answers) ≡ true
-  pub second : granted (run acted A (run acted E start .end) .answers) ≡ true
-  pub alone : granted (run acted A start .answers) ≡ true
-  pub behind : granted (run acted O (run acted E start .end) .answers) ≡ true
-  pub other : granted (run acted O start .answers) ≡ true
-  pub before : granted (run acted E (run acted O start .end) .answers) ≡ true
-  pub begun : granted (run acted B (run acted E start .end) .answers) ≡ true
-  pub last : granted (run acted L (run acted B (run acted E start .end) .end) .answers) ≡ true
+pub record Grants (σ : Setting) : Type 0 where
+  pub first : granted (run acted E (start σ) .answers) ≡ true
+  pub second : granted (run acted A (run acted E (start σ) .end) .answers) ≡ true
+  pub alone : granted (run acted A (start σ) .answers) ≡ true
+  pub behind : granted (run acted O (run acted E (start σ) .end) .answers) ≡ true
+  pub other : granted (run acted O (start σ) .answers) ≡ true
+  pub before : granted (run acted E (run acted O (start σ) .end) .answers) ≡ true
+  pub begun : granted (run acted B (run acted E (start σ) .end) .answers) ≡ true
+  pub last : granted (run acted L (run acted B (run acted E (start σ) .end) .end) .answers) ≡ true
 
 -- nothing is refused
-pub grants : Grants
-unfolding granted run acted sendAll bytesOf example again other changeDisk newWorld named taken changed allChanged putIn responded maskRows rows commandBy commandOf seekIf startAt writeData writeReply saveAt written obeyed commandIf commandByte dataIf dataByte byteFor sent done writePort reportOf fresh freshFrom formatted idsFrom blanks sizeOf sectorAt findFrom change saved total readBytes readAt runFrom contents servedAs readData
-grants = record { first = refl; second = refl; alone = refl; behind = refl; other = refl; before = refl; begun = refl; last = refl }
+pub grants : (σ : Setting) → Grants σ
+unfolding granted run acted sendAll bytesOf example again other changeDisk newWorld named taken changed allChanged putIn responded maskRows rows commandBy commandOf seekIf startAt writeData writeReply saveAt writtenSector writtenInto obeyed commandIf commandByte dataIf dataByte byteFor sent done writePort reportOf fresh freshFrom formatted idsFrom blanks sizeOf sectorAt findFrom change saved total readBytes readAt runFrom contents servedAs readData
+grants σ = record { first = refl; second = refl; alone = refl; behind = refl; other = refl; before = refl; begun = refl; last = refl }
 
 -- ---- they are saves, and the Read Data reads the first one back
 
@@ -159,35 +160,35 @@ reads-count (suc n) = ap suc (reads-count n)
 
 -- ---- the machine
 
-pub start-ready : Ready (start .world) fresh
+pub start-ready : (σ : Setting) → Ready ((start σ) .world) fresh
 unfolding changeDisk newWorld
-start-ready = record { disk-in = refl; nothing-sent = refl; no-write = refl }
+start-ready σ = record { disk-in = refl; nothing-sent = refl; no-write = refl }
 
 -- bytes sent one after another, if none is refused
 pub sending : (l : List ℕ) (answers : List Answer) → granted answers ≡ true → Sends (sendAll l) l answers
 sending l answers ok = record { sends = sent-all l; grants = ok }
 
-pub ends : Sends L (0xFF ∷ []) (run acted L (run acted B (run acted E start .end) .end) .answers)
+pub ends : (σ : Setting) → Sends L (0xFF ∷ []) (run acted L (run acted B (run acted E (start σ) .end) .end) .answers)
 unfolding sentIn
-ends = record { sends = refl; grants = grants .last }
+ends σ = record { sends = refl; grants = grants σ .last }
 
 -- the save changes sector 3 of cylinder 7 and nothing else
-pub example-touches : Ready (run acted E start .end .world) (savedBy example fresh)
+pub example-touches : (σ : Setting) → Ready (run acted E (start σ) .end .world) (savedBy example fresh)
     × Only (addressOf example) (example .content) (blank 2 0xE5 (record { c = 7; h = 0; r = 3; n = 2 })) fresh (savedBy example fresh)
 unfolding example-is with-is
-example-touches = save-touches example fresh start E start-ready example-is (sending (bytesOf example) _ (grants .first))
+example-touches σ = save-touches example fresh (start σ) E (start-ready σ) example-is (sending (bytesOf example) _ (grants σ .first))
 
 -- of two to sector 3 the second alone counts
-pub example-second : inDrive (run acted A (run acted E start .end) .end .world) ≡ inDrive (run acted A start .end .world)
-example-second =
-    second-alone example again fresh start E A A start-ready example-is again-is same
-    (sending (bytesOf example) _ (grants .first)) (sending (bytesOf again) _ (grants .second)) (sending (bytesOf again) _ (grants .alone))
+pub example-second : (σ : Setting) → inDrive (run acted A (run acted E (start σ) .end) .end .world) ≡ inDrive (run acted A (start σ) .end .world)
+example-second σ =
+    second-alone example again fresh (start σ) E A A (start-ready σ) example-is again-is same
+    (sending (bytesOf example) _ (grants σ .first)) (sending (bytesOf again) _ (grants σ .second)) (sending (bytesOf again) _ (grants σ .alone))
 
 -- sectors 3 and 4 in either order
-pub example-order : inDrive (run acted O (run acted E start .end) .end .world) ≡ inDrive (run acted E (run acted O start .end) .end .world)
-example-order =
-    either-order example other fresh start E O O E start-ready example-is other-is differ
-    (sending (bytesOf example) _ (grants .first)) (sending (bytesOf other) _ (grants .behind)) (sending (bytesOf other) _ (grants .other)) (sending (bytesOf example) _ (grants .before))
+pub example-order : (σ : Setting) → inDrive (run acted O (run acted E (start σ) .end) .end .world) ≡ inDrive (run acted E (run acted O (start σ) .end) .end .world)
+example-order σ =
+    either-order example other fresh (start σ) E O O E (start-ready σ) example-is other-is differ
+    (sending (bytesOf example) _ (grants σ .first)) (sending (bytesOf other) _ (grants σ .behind)) (sending (bytesOf other) _ (grants σ .other)) (sending (bytesOf example) _ (grants σ .before))
 
 -- 512 bytes AA and the reply 40 80 00 07 00 03 02
 abbrev pub Told : List ℕ
@@ -202,8 +203,8 @@ unfolding example example-is with-is replyTo withBit
 told-is n l e = e ∙ ap (λ (m : ℕ). take m Told) (reads-count n)
 
 -- so many reads give so many of them
-pub example-back : (n : ℕ) → n ≤ 519 → givenIn (run acted (reads n) (run acted L (run acted B (run acted E start .end) .end) .end) .answers) ≡ take n Told
-example-back n h =
+pub example-back : (σ : Setting) (n : ℕ) → n ≤ 519 → givenIn (run acted (reads n) (run acted L (run acted B (run acted E (start σ) .end) .end) .end) .answers) ≡ take n Told
+example-back σ n h =
     told-is n _
-    (read-back example fresh 0x46 0 3 0x2A 0xFF start E B (reads n) start-ready example-is (sending (bytesOf example) _ (grants .first)) back-is
-    (sending (readBytes example 0x46 0 3 0x2A) _ (grants .begun)) ends (reads-lose-none n _) (few n h))
+    (read-back example fresh 0x46 0 3 0x2A 0xFF (start σ) E B (reads n) (start-ready σ) example-is (sending (bytesOf example) _ (grants σ .first)) back-is
+    (sending (readBytes example 0x46 0 3 0x2A) _ (grants σ .begun)) (ends σ) (reads-lose-none n _) (few n h))

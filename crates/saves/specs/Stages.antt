@@ -7,6 +7,7 @@ use Rattle.fields.specs.Refusals.{Result, refused, good}
 use Rattle.store.specs.Store.{roomOf, diskOf}
 use Rattle.registers.specs.Boxes.{Rooms, Slot, Empty, Holds, World, newWorld, silent}
 use Rattle.registers.specs.declared.regs.Report.{Report}
+use Rattle.registers.specs.declared.regs.Setting.{Setting}
 use Rattle.registers.specs.Ports.{status, afterStatus, portByte, afterRead, setMotor, changeDisk}
 use Rattle.registers.specs.View.{slotIf}
 use Rattle.commands.specs.Commands.{ready}
@@ -20,8 +21,8 @@ pub record Stage : Type 0 where
   pub world : World
 
 -- a new controller
-abbrev pub newStage : Rooms → Stage
-newStage s = record { rooms = s; world = newWorld }
+abbrev pub newStage : Setting → Rooms → Stage
+newStage x s = record { rooms = s; world = newWorld x }
 
 -- the stage with other boxes
 abbrev pub withWorld : World → Stage → Stage

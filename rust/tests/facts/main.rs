@@ -4,6 +4,7 @@ mod changes;
 mod disks;
 mod homes;
 mod images;
+mod machines;
 mod noise;
 mod refusals;
 mod saves;
@@ -61,6 +62,19 @@ fn everything(controller: &Controller) -> (Vec<u8>, usize, Option<Vec<u8>>) {
         controller.transfer_room(),
         disk.map(|disk| [disk.table(), disk.data()].concat()),
     )
+}
+
+/// The controller and its disk, taken up from the sheet and the disk's bytes with the same transfer room.
+fn taken_up(controller: &Controller) -> Controller {
+    let disk = controller.disk().map(|disk| {
+        let parts = (disk.table().to_vec(), disk.data().to_vec());
+        Disk::from_parts(parts.0, parts.1).expect("a disk's parts")
+    });
+    let room = controller.transfer_room();
+    let sheet = controller.to_sheet();
+    let mut taken = Controller::from_sheet_with_transfer_room(&sheet, room).expect("a sheet");
+    taken.set_disk(disk);
+    taken
 }
 
 /// Reads the status.

@@ -1,7 +1,7 @@
 //! Bytes that something else has changed, or that came by chance: they are refused, or they make a controller or disk
 //! on which every call answers.
 
-use kafondiye::{Controller, Disk, Refusal, SectorId};
+use kafondiye::{Controller, Disk, Machine, Refusal, SectorId};
 
 use crate::images::{self, Track};
 use crate::{FIRST, format, fresh, read, read_data, seek, send, write_data};
@@ -20,18 +20,20 @@ fn small_disk() -> Disk {
     Disk::from_image_with_room(&image, 600).expect("a good image")
 }
 
-/// Controllers in the middle of something, without a disk.
+/// Controllers of the data-sheet machine in the middle of something, without a disk.
 fn controllers() -> Vec<Controller> {
     let id = SectorId { n: 0, ..FIRST };
-    let begun: [&[u8]; 5] = [
+    let begun: [&[u8]; 6] = [
         &[],
         &[0x46, 0x00, 0x00],
         &read_data(id, 2),
         &[&write_data(id)[..], &[7; 100]].concat(),
         &seek(1),
+        &[&format(0, 3, 0)[..], &[7; 5]].concat(),
     ];
     let start = |bytes: &[u8]| {
-        let mut controller = Controller::with_transfer_room(300);
+        let mut controller = Controller::new_with(Machine::DataSheet);
+        controller.set_transfer_room(300).expect("nothing was read");
         controller.set_disk(Some(small_disk()));
         send(&mut controller, bytes);
         controller.set_disk(None);
@@ -104,14 +106,15 @@ impl Chance {
     /// Boxes by chance in the form of a sheet.
     fn sheet(&mut self) -> Vec<u8> {
         let mut rest = Vec::new();
-        for (place, most) in [1, 1, 1, 2, 9, 8, 400, 1, 140].into_iter().enumerate() {
+        let lengths = [1, 1, 1, 2, 9, 8, 400, 1, 140, 1, 12];
+        for (place, most) in lengths.into_iter().enumerate() {
             let bytes = self.boxed(most);
             let wide = if place == 6 { 4 } else { 2 };
             rest.extend(&(bytes.len() as u32).to_be_bytes()[4 - wide..]);
             rest.extend(bytes);
         }
         let length = (rest.len() as u32).to_be_bytes();
-        [&[1], &length[..], &rest].concat()
+        [&[2], &length[..], &rest].concat()
     }
 }
 

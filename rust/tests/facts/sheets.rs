@@ -1,22 +1,10 @@
 //! A session that is kept, the controller as its sheet, and taken up again.
 
-use kafondiye::{Controller, Disk, Refusal, Report, SectorId};
+use kafondiye::{Controller, Disk, Machine, Refusal, Report, SectorId};
 
 use crate::images::{self, Track};
-use crate::{FIRST, everything, fresh, pattern, read, read_data, seek, send, status, write_data};
-
-/// The controller and its disk, taken up from the sheet and the disk's bytes with the same transfer room.
-fn taken_up(controller: &Controller) -> Controller {
-    let disk = controller.disk().map(|disk| {
-        let parts = (disk.table().to_vec(), disk.data().to_vec());
-        Disk::from_parts(parts.0, parts.1).expect("a disk's parts")
-    });
-    let room = controller.transfer_room();
-    let sheet = controller.to_sheet();
-    let mut taken = Controller::from_sheet_with_transfer_room(&sheet, room).expect("a sheet");
-    taken.set_disk(disk);
-    taken
-}
+use crate::{FIRST, everything, format, fresh, pattern, read, read_data, seek, send, status};
+use crate::{taken_up, write_data};
 
 /// A box, its length in so many bytes first.
 fn boxed(wide: usize, bytes: &[u8]) -> Vec<u8> {
@@ -25,20 +13,42 @@ fn boxed(wide: usize, bytes: &[u8]) -> Vec<u8> {
 }
 
 /// The boxes of a sheet, in their order: motor, cylinder, seek state, ID index, command, reply, unread data, lost
-/// count, write.
-type Boxes<'a> = [&'a [u8]; 9];
+/// count, write, machine, Format.
+type Boxes<'a> = [&'a [u8]; 11];
 
 /// The boxes of a new controller.
-const NEW: Boxes = [&[0], &[0], &[0], &[0, 0], &[], &[], &[], &[0], &[]];
+const NEW: Boxes = [
+    &[0],
+    &[0],
+    &[0],
+    &[0, 0],
+    &[],
+    &[],
+    &[],
+    &[0],
+    &[],
+    &[0],
+    &[],
+];
 
 /// These boxes in the house form.
 fn sheet(boxes: Boxes) -> Vec<u8> {
+    framed(2, &boxes)
+}
+
+/// The first nine of these boxes as a sheet of version 1.
+fn old_sheet(boxes: Boxes) -> Vec<u8> {
+    framed(1, &boxes[..9])
+}
+
+/// Boxes behind a version and their length.
+fn framed(version: u8, boxes: &[&[u8]]) -> Vec<u8> {
     let wide = |place| if place == 6 { 4 } else { 2 };
-    let places = boxes.into_iter().enumerate();
+    let places = boxes.iter().enumerate();
     let rest: Vec<u8> = places
         .flat_map(|(k, bytes)| boxed(wide(k), bytes))
         .collect();
-    [vec![1], boxed(4, &rest)].concat()
+    [vec![version], boxed(4, &rest)].concat()
 }
 
 /// The sheet of a new controller with another box in one place.
@@ -54,10 +64,12 @@ fn refusal(sheet: &[u8]) -> Option<Refusal> {
 }
 
 #[test]
-fn a_new_controller_has_every_box_and_31_bytes() {
+fn a_new_controller_has_every_box_and_36_bytes() {
     let bytes = Controller::new().to_sheet();
     assert_eq!(bytes, sheet(NEW));
-    assert_eq!(bytes.len(), 31);
+    assert_eq!(bytes.len(), 36);
+    let other = Controller::new_with(Machine::DataSheet).to_sheet();
+    assert_eq!(other, with_box(9, &[1]));
 }
 
 #[test]
@@ -82,6 +94,8 @@ fn a_sheet_has_each_box_in_the_house_form() {
         &[0xe5, 0xe5],
         &[1],
         &[],
+        &[0],
+        &[],
     ];
     assert_eq!(controller.to_sheet(), sheet(boxes));
 }
@@ -95,6 +109,87 @@ fn a_write_in_progress_is_c1_the_id_and_its_bytes_so_far() {
     send(&mut controller, &[7, 8, 9]);
     let further = with_box(8, &[0x00, 0, 0, 1, 2, 7, 8, 9]);
     assert_eq!(controller.to_sheet(), further);
+}
+
+/// The sheet of a new controller of this machine but for a Format, with these bytes in its box.
+fn with_format(machine: u8, bytes: &[u8]) -> Vec<u8> {
+    let mut boxes = NEW;
+    let machine = [machine];
+    (boxes[9], boxes[10]) = (&machine, bytes);
+    sheet(boxes)
+}
+
+#[test]
+fn a_format_in_progress_is_c1_its_numbers_and_the_ids_so_far() {
+    let mut controller = Controller::new_with(Machine::DataSheet);
+    controller.set_disk(Some(Disk::new_formatted()));
+    send(&mut controller, &format(2, 9, 0xaa));
+    let begun = with_format(1, &[0x00, 2, 9, 0x2a, 0xaa]);
+    assert_eq!(controller.to_sheet(), begun);
+    send(&mut controller, &[0, 0, 0xc1]);
+    let further = with_format(1, &[0x00, 2, 9, 0x2a, 0xaa, 0, 0, 0xc1]);
+    assert_eq!(controller.to_sheet(), further);
+}
+
+#[test]
+fn a_sheet_of_version_1_is_read_as_the_rust_machine() {
+    let mut boxes = NEW;
+    (boxes[1], boxes[5]) = (&[5], &[0x28]);
+    let mut taken = Controller::from_sheet(&old_sheet(boxes)).expect("a sheet");
+    assert_eq!(taken.machine(), Machine::Rust);
+    assert_eq!(taken.to_sheet(), sheet(boxes));
+    send(&mut taken, &[0x00]);
+    assert_eq!(read(&mut taken, 2), [0x28, 0x00]);
+    send(&mut taken, &[0x08]);
+    assert_eq!(read(&mut taken, 2), [0x80, 0x05]);
+}
+
+#[test]
+fn boxes_of_one_version_under_the_other_are_11() {
+    let [mut old, mut new] = [old_sheet(NEW), sheet(NEW)];
+    (old[0], new[0]) = (2, 1);
+    for bytes in [old, new] {
+        assert_eq!(refusal(&bytes), Some(Refusal::BadSheet));
+    }
+}
+
+#[test]
+fn a_machine_over_1_or_of_another_length_is_11() {
+    for bytes in [&[2][..], &[255], &[], &[0, 0]] {
+        assert_eq!(refusal(&with_box(9, bytes)), Some(Refusal::BadSheet));
+    }
+}
+
+#[test]
+fn a_format_that_is_whole_or_of_another_drive_or_machine_or_too_short_is_11() {
+    let format = |machine, c1: u8, count: u8, taken: usize| {
+        let head = [c1, 2, count, 0x2a, 0xaa];
+        refusal(&with_format(
+            machine,
+            &[&head[..], &vec![0; taken]].concat(),
+        ))
+    };
+    let bad = Some(Refusal::BadSheet);
+    for count in [1, 9, 255] {
+        let whole = 4 * usize::from(count);
+        assert_eq!(format(1, 4, count, whole - 1), None);
+        assert_eq!(format(1, 4, count, whole), bad);
+    }
+    assert_eq!(format(1, 0, 0, 0), bad);
+    assert_eq!(format(1, 1, 9, 0), bad);
+    assert_eq!(format(0, 0, 9, 0), bad);
+    for length in 1..5 {
+        assert_eq!(refusal(&with_format(1, &[0, 2, 9, 0][..length])), bad);
+    }
+}
+
+#[test]
+fn a_format_beside_a_write_is_11() {
+    let mut boxes = NEW;
+    (boxes[8], boxes[9]) = (&[0, 0, 0, 1, 2], &[1]);
+    assert_eq!(refusal(&sheet(boxes)), None);
+    boxes[10] = &[0, 2, 9, 0x2a, 0xaa];
+    assert_eq!(refusal(&sheet(boxes)), Some(Refusal::BadSheet));
 }
 
 #[test]
@@ -256,7 +351,7 @@ fn unread_data_over_65536_bytes_are_9_in_any_room() {
 }
 
 #[test]
-fn the_longest_sheet_has_66610_bytes() {
+fn the_longest_sheet_has_66615_bytes() {
     let boxes: Boxes = [
         &[1],
         &[255],
@@ -267,9 +362,11 @@ fn the_longest_sheet_has_66610_bytes() {
         &[255; 65_536],
         &[2],
         &[[0, 0, 0, 1, 3].as_slice(), &[255; 1_023]].concat(),
+        &[1],
+        &[],
     ];
     let longest = sheet(boxes);
-    assert_eq!(longest.len(), 66_610);
+    assert_eq!(longest.len(), 66_615);
     let taken = Controller::from_sheet(&longest).expect("a sheet");
     assert!(taken.to_sheet() == longest);
 }
@@ -294,7 +391,7 @@ fn a_sheet_that_is_cut_short_or_goes_on_is_11() {
 #[test]
 fn another_version_is_11() {
     let mut bytes = sheet(NEW);
-    for version in [0, 2, 255] {
+    for version in [0, 3, 255] {
         bytes[0] = version;
         assert_eq!(refusal(&bytes), Some(Refusal::BadSheet));
     }
@@ -360,12 +457,12 @@ fn a_sheet_that_is_none_is_11_before_9() {
     let mut bytes = with_box(6, &[0; 20]);
     let no_room = |bytes: &[u8]| Controller::from_sheet_with_transfer_room(bytes, 0).err();
     assert_eq!(no_room(&bytes), Some(Refusal::NoTransferRoom));
-    bytes[0] = 2;
+    bytes[0] = 3;
     assert_eq!(no_room(&bytes), Some(Refusal::BadSheet));
 }
 
 #[test]
 fn bytes_that_no_controller_gave_are_11() {
-    assert_eq!(refusal(&[0xff; 66_610]), Some(Refusal::BadSheet));
+    assert_eq!(refusal(&[0xff; 66_615]), Some(Refusal::BadSheet));
     assert_eq!(refusal(&[]), Some(Refusal::BadSheet));
 }

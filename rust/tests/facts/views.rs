@@ -10,7 +10,7 @@ fn debug_texts_show_nothing_of_what_is_on_the_disk() {
     assert_eq!(text, "Disk { geometry: (39, 0), room: 1048576, .. }");
     let controller = format!("{:?}", fresh());
     let expected = format!(
-        "Controller {{ motor: false, current_track: 0, disk: Some({text}), transfer_room: 65536, .. }}"
+        "Controller {{ machine: Rust, motor: false, current_track: 0, disk: Some({text}), transfer_room: 65536, .. }}"
     );
     assert_eq!(controller, expected);
 }

@@ -14,7 +14,9 @@ same-length-2 : tie.Need-same-length-2
 same-length-2 c = search needs
 
 returns : tie.Need-returns
-returns c = λ x. ended-into _ _ _ _ x true (c .before .before .before .before .before .before .before .if1 .taken) _ _ _ (c .before .before .before .before .finish-format .ensures x)
+returns c =
+    let g = c .before .before .before .before .before .before .before .before .before .before .before .args in
+    λ x. ended-into (g .regs) (g .held .now) (g .table .now) (g .bytes .now) x true (c .before .before .before .before .before .before .before .if1 .taken) _ _ _ (c .before .before .before .before .finish-format .ensures x)
 
 finish-sector-requires : tie.Need-finish-sector-requires
 finish-sector-requires c κs = search needs
@@ -26,7 +28,9 @@ same-length-4 : tie.Need-same-length-4
 same-length-4 c = search needs
 
 returns-2 : tie.Need-returns-2
-returns-2 c = λ x. ended-into _ _ _ _ x false (c .before .before .before .before .before .before .before .if1 .left) _ _ _ (c .before .before .before .before .finish-sector .ensures x)
+returns-2 c =
+    let g = c .before .before .before .before .before .before .before .before .before .before .before .args in
+    λ x. ended-into (g .regs) (g .held .now) (g .table .now) (g .bytes .now) x false (c .before .before .before .before .before .before .before .if1 .left) _ _ _ (c .before .before .before .before .finish-sector .ensures x)
 
 pub finish-write-spec : {M : Type 1} → statement M
 finish-write-spec =
