@@ -33,12 +33,13 @@ use Rattle.disk.specs.declared.answer.Reading.{Reading}
 use Rattle.disk.specs.declared.answer.Reading.the-variants as reading
 use Rattle.store.proofs.Checks.{transfer-in}
 use Rattle.codes.specs.Second.{u, headOf}
+use Rattle.registers.specs.declared.regs.Goal.the-variants.{IntoSector, IntoTrack}
 use Rattle.registers.specs.declared.regs.Regs.{Regs}
 use Rattle.registers.specs.declared.regs.Drive.{Drive}
 use Rattle.registers.specs.declared.regs.Report.{Report}
 use Rattle.registers.specs.declared.regs.Shape.{Shape}
 use Rattle.registers.specs.declared.regs.Written.{Written}
-use Rattle.registers.specs.Boxes.{Empty, Holds, IntoSector, IntoTrack, fitted, Named, seven, silent, serves, Change, Turn, Start, Finish, Effect}
+use Rattle.registers.specs.Boxes.{Empty, Holds, fitted, Named, seven, silent, serves, Change, Turn, Start, Finish, Effect}
 use Rattle.registers.specs.Boxes.{Stay, Reply, ReplyIfNone, Serve}
 use Rattle.registers.specs.View.{slotIf, roomsOf, namedIn, namedAs}
 use Rattle.registers.specs.Settle.{accepted, declined, driveNamed, replied, regsWithUnread, regsChanged, regsAll, regsResponded, regsOf}
@@ -322,30 +323,30 @@ module _ (r : Regs) (command t b : List ℕ) where
   format-whole v e q a t′ b′ x h = subst (λ (y : Result Effect). Stores y r t b a t′ b′) (format-by false (sym q ∙ e) x) h
 
 -- the end of an execution phase
-module _ (r : Regs) (t b ids : List ℕ) (d : Drive) (e : d ≡ driveNamed (r .write .c1) r) (x : List ℕ) where
+module _ (r : Regs) (z : Shape) (t b ids : List ℕ) (d : Drive) (e : d ≡ driveNamed (r .write .c1) r) (x : List ℕ) where
   abbrev TrackAs : Named → Result Effect
-  TrackAs = writtenInto (IntoTrack (r .write .shape)) (roomsOf b x) (r .write .c1) ids
+  TrackAs = writtenInto (IntoTrack z) (roomsOf b x) (r .write .c1) ids
 
   pub track-none : d .disk ≡ false
-      → Stores (intoHere (IntoTrack (r .write .shape)) ids r t b x) r t b (laidRegs r (Finish ∷ []) (r .write .c1) (r .write .shape) t b done.Good) t b
+      → Stores (intoHere (IntoTrack z) ids r t b x) r t b (laidRegs r (Finish ∷ []) (r .write .c1) z t b done.Good) t b
   unfolding writtenInto writtenTrack regsOf regsResponded
   track-none q =
-      subst (λ (y : Result Effect). Stores y r t b (laidRegs r (Finish ∷ []) (r .write .c1) (r .write .shape) t b done.Good) t b)
+      subst (λ (y : Result Effect). Stores y r t b (laidRegs r (Finish ∷ []) (r .write .c1) z t b done.Good) t b)
       (with-none r (r .write .c1) t b d e TrackAs q) (refl, (refl, refl))
 
   pub track-ran : (a a′ : Done) (t′ b′ : List ℕ) → d .disk ≡ true → a ≡ a′
-      → looks.outcome a t′ b′ ≡ calls.setOf (headOf (r .write .c1)) (d .cylinder) (trackAs (r .write .c1) (d .cylinder) (r .write .shape) (idsAt ids 0 (r .write .shape .sectors))) t b
-      → Stores (intoHere (IntoTrack (r .write .shape)) ids r t b x) r t b (laidRegs r (Finish ∷ []) (r .write .c1) (r .write .shape) t b a′) t′ b′
+      → looks.outcome a t′ b′ ≡ calls.setOf (headOf (r .write .c1)) (d .cylinder) (trackAs (r .write .c1) (d .cylinder) z (idsAt ids 0 (z .sectors))) t b
+      → Stores (intoHere (IntoTrack z) ids r t b x) r t b (laidRegs r (Finish ∷ []) (r .write .c1) z t b a′) t′ b′
   unfolding writtenInto writtenTrack
   track-ran a a′ t′ b′ q f w =
-      subst (λ (y : Result Effect). Stores y r t b (laidRegs r (Finish ∷ []) (r .write .c1) (r .write .shape) t b a′) t′ b′) (with-disk r (r .write .c1) t b d e TrackAs q)
-      (laid-ran r (Finish ∷ []) (r .write .c1) (r .write .shape) t b (d .cylinder) (idsAt ids 0 (r .write .shape .sectors)) a a′ t′ b′ f w x)
+      subst (λ (y : Result Effect). Stores y r t b (laidRegs r (Finish ∷ []) (r .write .c1) z t b a′) t′ b′) (with-disk r (r .write .c1) t b d e TrackAs q)
+      (laid-ran r (Finish ∷ []) (r .write .c1) z t b (d .cylinder) (idsAt ids 0 (z .sectors)) a a′ t′ b′ f w x)
 
 -- ---- The end of a write
 
-module _ (r : Regs) (t b held : List ℕ) (few : length held ≤ mostHeld) (d : Drive) (e : d ≡ driveNamed (r .write .c1) r) where
+module _ (r : Regs) (id : SectorId) (t b held : List ℕ) (few : length held ≤ mostHeld) (d : Drive) (e : d ≡ driveNamed (r .write .c1) r) where
   abbrev pub Told : Report → Written
-  Told x = accepted x (replied (writeReply (r .write .c1) (r .write .id)) (regsChanged Finish r))
+  Told x = accepted x (replied (writeReply (r .write .c1) id) (regsChanged Finish r))
 
   -- by what `save` answers
   abbrev pub saveRegs : Saved → Written
@@ -357,7 +358,7 @@ module _ (r : Regs) (t b held : List ℕ) (few : length held ≤ mostHeld) (d : 
   Saving y (looks.outcome a t′ b′) = Stores y r t b (saveRegs a) t′ b′
 
   put-saved : (v : Bool) (m : Match) (y : Disk)
-      → Saving (need v NoRoom (puts (serves m) (Finish ∷ []) y (writeReply (r .write .c1) (r .write .id))))
+      → Saving (need v NoRoom (puts (serves m) (Finish ∷ []) y (writeReply (r .write .c1) id)))
       (looks.laidAs saving.Refused (saving.Good m) t b (need true NoRoom (need v NoRoom (good y))))
   unfolding regsOf regsAll regsResponded
   put-saved true m y = (refl, (refl, refl))
@@ -365,10 +366,10 @@ module _ (r : Regs) (t b held : List ℕ) (few : length held ≤ mostHeld) (d : 
 
   module _ (x : List ℕ) where
     abbrev WrittenAs : Named → Result Effect
-    WrittenAs = writtenInto (IntoSector (r .write .id)) (roomsOf b x) (r .write .c1) held
+    WrittenAs = writtenInto (IntoSector id) (roomsOf b x) (r .write .c1) held
 
     at-saved : (m : Match) (y : Disk) (s : Found Sector)
-        → Saving (saveAt (roomsOf b x) (r .write .c1) (r .write .id) m y s) (calls.saveFound t b (length held) m y s)
+        → Saving (saveAt (roomsOf b x) (r .write .c1) id m y s) (calls.saveFound t b (length held) m y s)
     unfolding saveAt
     at-saved m y nothing = unfold regsOf regsAll regsResponded in (refl, (refl, refl))
     at-saved m y (found k s) =
@@ -376,23 +377,23 @@ module _ (r : Regs) (t b held : List ℕ) (few : length held ≤ mostHeld) (d : 
         rw z (put-saved (leb (byteCount y) (roomOf b)) m y)
 
     disk-saved : (f : Bool) (disk : Result Disk)
-        → Saving (WrittenAs (namedAs f d (Holds disk))) (calls.saveIn t b (headOf (r .write .c1)) (d .cylinder) (r .write .id) held disk)
+        → Saving (WrittenAs (namedAs f d (Holds disk))) (calls.saveIn t b (headOf (r .write .c1)) (d .cylinder) id held disk)
     unfolding writtenInto writtenSector
     disk-saved f (refused why) = unfold regsOf in (refl, (refl, refl))
     disk-saved f (good y) =
-        at-saved (matchAt y (headOf (r .write .c1)) (d .cylinder) (r .write .id))
-        (saved (headOf (r .write .c1)) (d .cylinder) (r .write .id) held y) (sectorAt y (headOf (r .write .c1)) (d .cylinder) (r .write .id))
+        at-saved (matchAt y (headOf (r .write .c1)) (d .cylinder) id)
+        (saved (headOf (r .write .c1)) (d .cylinder) id held y) (sectorAt y (headOf (r .write .c1)) (d .cylinder) id)
 
-    pub finish-none : d .disk ≡ false → Stores (intoHere (IntoSector (r .write .id)) held r t b x) r t b (Told silent) t b
+    pub finish-none : d .disk ≡ false → Stores (intoHere (IntoSector id) held r t b x) r t b (Told silent) t b
     unfolding writtenInto writtenSector regsOf regsAll regsResponded
     finish-none q = subst (λ (y : Result Effect). Stores y r t b (Told silent) t b) (with-none r (r .write .c1) t b d e WrittenAs q) (refl, (refl, refl))
 
     pub finish-ran : (h : ℕ) → h ≡ headOf (r .write .c1) → (a a′ : Saved) (t′ b′ : List ℕ) → d .disk ≡ true → a ≡ a′
-        → looks.outcome a t′ b′ ≡ calls.saveOf t b h (d .cylinder) (r .write .id) held
-        → Stores (intoHere (IntoSector (r .write .id)) held r t b x) r t b (saveRegs a′) t′ b′
+        → looks.outcome a t′ b′ ≡ calls.saveOf t b h (d .cylinder) id held
+        → Stores (intoHere (IntoSector id) held r t b x) r t b (saveRegs a′) t′ b′
     unfolding calls.saveOf
     finish-ran h p a a′ t′ b′ q f w =
-        let z : looks.outcome a′ t′ b′ ≡ calls.saveIn t b (headOf (r .write .c1)) (d .cylinder) (r .write .id) held (diskOf t b) =
-        ap (λ (y : Saved). looks.outcome y t′ b′) (sym f) ∙ w ∙ ap (λ (y : ℕ). calls.saveIn t b y (d .cylinder) (r .write .id) held (diskOf t b)) p in
+        let z : looks.outcome a′ t′ b′ ≡ calls.saveIn t b (headOf (r .write .c1)) (d .cylinder) id held (diskOf t b) =
+        ap (λ (y : Saved). looks.outcome y t′ b′) (sym f) ∙ w ∙ ap (λ (y : ℕ). calls.saveIn t b y (d .cylinder) id held (diskOf t b)) p in
         subst (λ (y : Result Effect). Stores y r t b (saveRegs a′) t′ b′) (with-disk r (r .write .c1) t b d e WrittenAs q)
         (subst (Saving (WrittenAs (namedAs (fitted (r .write .c1)) d (Holds (diskOf t b))))) (sym z) (disk-saved (fitted (r .write .c1)) (diskOf t b)))

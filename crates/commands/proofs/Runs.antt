@@ -19,11 +19,13 @@ use Rattle.disk.specs.Change.{setTrack}
 use Rattle.codes.specs.declared.command.Command.{Command}
 use Rattle.registers.specs.declared.regs.Regs.{Regs}
 use Rattle.registers.specs.declared.regs.Written.{Written}
+use Rattle.registers.specs.declared.regs.Goal.{Goal}
+use Rattle.registers.specs.declared.regs.Goal.the-variants.{IntoSector, IntoTrack}
 use Rattle.registers.specs.declared.regs.Machine.{Machine}
 use Rattle.registers.specs.declared.regs.Machine.the-variants.{Rust, DataSheet}
 use Rattle.registers.specs.declared.regs.Setting.{Setting}
 use Rattle.registers.specs.declared.regs.Shape.{Shape}
-use Rattle.registers.specs.Boxes.{Rooms, Slot, Empty, Holds, Goal, IntoSector, IntoTrack, Named, silent, Change, Effect}
+use Rattle.registers.specs.Boxes.{Rooms, Slot, Empty, Holds, Named, silent, Change, Effect}
 use Rattle.registers.specs.Boxes.{Response, Stay, Reply, ReplyIfNone, Seeking, Interrupt, Serve}
 use Rattle.codes.specs.Second.{headOf}
 use Rattle.commands.specs.Commands.{byte, ready, whenReady, does, puts, seekIf, invalid, servedAs, readData, startAt, writeData, saveAt, writtenSector, idGiven, readId}

@@ -9,10 +9,11 @@ use Rattle.fields.specs.Refusals.{Result, refused, good}
 use Rattle.fields.specs.Model.{Disk}
 use Rattle.store.specs.Store.{tableOf, dataOf}
 use Rattle.codes.specs.declared.command.Command.{Command}
+use Rattle.registers.specs.declared.regs.Goal.{Goal}
 use Rattle.registers.specs.declared.regs.Regs.{Regs}
 use Rattle.registers.specs.declared.regs.Report.{Report}
 use Rattle.registers.specs.declared.regs.Written.{Written}
-use Rattle.registers.specs.Boxes.{Goal, Response, Stay, Reply, ReplyIfNone, Seeking, Interrupt, Serve, Effect, Sent, World}
+use Rattle.registers.specs.Boxes.{Response, Stay, Reply, ReplyIfNone, Seeking, Interrupt, Serve, Effect, Sent, World}
 use Rattle.registers.specs.View.{roomsOf, writingOf, drivesOf, namedIn, worldOf}
 use Rattle.registers.specs.Settle.{declined, regsTaken, heldTaken, regsOf}
 use Rattle.commands.specs.Commands.{byte, readData, formatAtOnce, formatTrack, writtenInto, written, obeyed}

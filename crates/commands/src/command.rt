@@ -10,6 +10,7 @@ use fields::SectorId;
 use fields::St1;
 use fields::St2;
 use formatting::Format;
+use registers::Goal;
 use registers::Regs;
 use registers::Seek;
 use registers::Shape;
@@ -27,7 +28,8 @@ ghost use Rattle.store.specs.Calls.{outcome};
 ghost use Rattle.disk.specs.Calls.{setOf};
 ghost use Rattle.codes.specs.Second.{headOf};
 ghost use Rattle.tracks.specs.Rows.{idsAt};
-ghost use Rattle.registers.specs.Boxes.{IntoTrack, fitted, Interrupt, ReplyIfNone};
+ghost use Rattle.registers.specs.declared.regs.Goal.the-variants.{IntoTrack};
+ghost use Rattle.registers.specs.Boxes.{fitted, Interrupt, ReplyIfNone};
 ghost use Rattle.registers.specs.View.{namedIn};
 ghost use Rattle.registers.specs.Settle.{driveNamed, replied, regsWithUnread, regsResponded, regsOf};
 ghost use Rattle.commands.specs.Commands.{idOf, noId, missing, notReady, notReadyId, senseIf, seekIf, noSeek, invalid, markOf, readReply, writeData};
@@ -186,7 +188,7 @@ fn write_data(regs: Regs, c1: u8, id: SectorId, table: &[u8], bytes: &[u8]) -> W
     match store::has_sector(table, bytes, head_of(c1), d.cylinder, id) {
         Has::Refused(why) => regs.refused(why),
         Has::No => missing(regs, c1).done(),
-        Has::Yes(sector) => regs.started(c1, id).found(sector),
+        Has::Yes(sector) => regs.started(c1, Goal::IntoSector(id)).found(sector),
     }
 }
 
@@ -349,19 +351,24 @@ fn format_track(regs: Regs, command: [u8; 9], table: &mut [u8], bytes: &mut [u8]
         regs (now (table .entry)) (now (bytes .entry)) r (now (table .exit)) (now (bytes .exit))) ⌝ }
 {
     if has_phase(regs, command[1], command[3]) {
-        return regs.awaiting(command[1], shape_of(command)).done();
+        let goal = Goal::IntoTrack(shape_of(command));
+        return regs.started(command[1], goal).done();
     }
     format_at_once(regs, command, table, bytes)
 }
 
 // The last ID byte of a Format is held: the reply, and the track in the store.
-pub fn finish_format(regs: Regs, ids: &[u8], table: &mut [u8], bytes: &mut [u8]) -> Written
-    ensures { λ r. ⌜ ((x : List ℕ) → Stores (intoHere (IntoTrack (regs .write .shape)) (now (ids .entry)) regs (now (table .entry)) (now (bytes .entry)) x)
+pub fn finish_format(
+    regs: Regs,
+    shape: Shape,
+    ids: &[u8],
+    table: &mut [u8],
+    bytes: &mut [u8],
+) -> Written
+    ensures { λ r. ⌜ ((x : List ℕ) → Stores (intoHere (IntoTrack shape) (now (ids .entry)) regs (now (table .entry)) (now (bytes .entry)) x)
         regs (now (table .entry)) (now (bytes .entry)) r (now (table .exit)) (now (bytes .exit))) ⌝ }
 {
-    let p = regs.write;
-    let c1 = p.c1;
-    let shape = p.shape;
+    let c1 = regs.write.c1;
     let d = regs.named(c1);
     let r = format_reply(regs.finished(), c1, shape.size);
     if !d.disk {

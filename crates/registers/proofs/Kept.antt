@@ -17,14 +17,14 @@ use Rattle.registers.specs.declared.regs.Pending.{Pending}
 use Rattle.registers.specs.declared.regs.Setting.{Setting}
 use Rattle.registers.specs.declared.regs.Seek.{Seek}
 use Rattle.registers.specs.declared.regs.Seek.the-variants.{Idle, Running, Done}
-use Rattle.registers.specs.Boxes.{Goal, IntoSector, IntoTrack, wholeOf, Add, Hold, Change, Clear, MoveTo, Turn, Start, Finish}
+use Rattle.registers.specs.Boxes.{wholeOf, Add, Hold, Change, Clear, MoveTo, Turn, Start, Finish}
 use Rattle.registers.specs.Boxes.{Response, Stay, Reply, ReplyIfNone, Seeking, Interrupt, Serve}
 use Rattle.registers.specs.Ports.{settled, Poll, Stays, Counts, Drops, pollBy, sourceBy}
-use Rattle.registers.specs.View.{goalOf, wrongWork, wrongWrite, impossible, impossibleIn}
+use Rattle.registers.specs.View.{wrongWork, wrongWrite, impossible, impossibleIn}
 use Rattle.registers.specs.Settle.{regsWithMotor, regsWithDrive, sought, replied, pendingWith, regsTaken, regsChanged, regsAll, ifUnread, interruptedBy, regsResponded}
 use Rattle.registers.specs.Calls.{regsPolled, afterStatusOf, sourceOf, regsRead}
-use Rattle.registers.proofs.Numbers.{possible, possible-in, until-in, whole-most, goal-few, work-more, write-right}
-use Rattle.registers.specs.Possible.{Replying, Unread, Small, Lawful, Few, Fair, AllFair, Short}
+use Rattle.registers.proofs.Numbers.{possible, possible-in, until-in, whole-most, work-more, write-right}
+use Rattle.registers.specs.Possible.{Replying, Unread, Small, Lawful, Fair, AllFair, Short}
 
 -- ---- possible numbers, box by box
 
@@ -37,7 +37,7 @@ lawful-so x r w =
     let c = le-ltb (r .until) (r .from) (w .unread .read) in
     rw (le-ltb (r .fill) (r .place) (w .reply .read), c, le-ltb 7 (r .fill) (w .reply .few), a, le-ltb 2 (r .lost) (w .unread .few), w .write, b)
 
-pub so-lawful : (x : List ℕ) (r : Regs) → length (r .command) ≡ 9 → length (r .reply) ≡ 7 → Small (r .index) (r .write .taken) (r .write .shape .sectors) → impossibleIn x r ≡ false
+pub so-lawful : (x : List ℕ) (r : Regs) → length (r .command) ≡ 9 → length (r .reply) ≡ 7 → Small (r .index) (r .write .taken) (r .write .goal) → impossibleIn x r ≡ false
     → Lawful r (transferRoom x)
 so-lawful x r nine seven small e =
     let p = possible r (possible-in x r e) in
@@ -151,35 +151,27 @@ module _ (r : Regs) (room : ℕ) (w : Lawful r room) where
 
   -- ---- a byte of a write: one that is held, or the last, with which the write is done with
 
-  held-right : (f : Bool) (p : Pending) → wrongWork (r .setting) (p .c1) (goalOf p) (p .taken) ≡ false → p .taken + 1 < wholeOf (goalOf p)
+  held-right : (f : Bool) (p : Pending) → wrongWork (r .setting) (p .c1) (p .goal) (p .taken) ≡ false → p .taken + 1 < wholeOf (p .goal)
       → wrongWrite (r .setting) (pendingWith f (p .taken + 1) p) ≡ false
-  held-right true p e h = work-more (r .setting) (p .c1) (goalOf p) (p .taken) (p .taken + 1) h e
+  held-right true p e h = work-more (r .setting) (p .c1) (p .goal) (p .taken) (p .taken + 1) h e
   held-right false p e h = refl
 
-  pub kept-held : (b : ℕ) → r .write .on ≡ true → r .write .taken + 1 < wholeOf (goalOf (r .write)) → Lawful (regsTaken (Hold b) r) room
+  pub kept-held : (b : ℕ) → r .write .on ≡ true → r .write .taken + 1 < wholeOf (r .write .goal) → Lawful (regsTaken (Hold b) r) room
   kept-held b on h =
       let right = held-right (r .write .on) (r .write) (write-right (r .setting) (r .write) (w .write) on) h in
-      let most = whole-most (goalOf (r .write)) (goal-few (r .write) (w .small .sectors-fit)) in
-      let fits : Small (r .index) (r .write .taken + 1) (r .write .shape .sectors) =
-      record { index-fits = w .small .index-fits; taken-fits = omega (arith, h, most); sectors-fit = w .small .sectors-fit } in
+      let most = whole-most (r .write .goal) (w .small .few) in
+      let fits : Small (r .index) (r .write .taken + 1) (r .write .goal) =
+      record { index-fits = w .small .index-fits; taken-fits = omega (arith, h, most); few = w .small .few } in
       record { command = w .command; reply = w .reply; unread = w .unread; write = right; small = fits }
 
   pub kept-ended : (b : ℕ) → Lawful (regsChanged Finish (regsTaken (Hold b) r)) room
   kept-ended b =
-      let fits : Small (r .index) 0 (r .write .shape .sectors) = record { index-fits = w .small .index-fits; taken-fits = omega arith; sectors-fit = w .small .sectors-fit } in
+      let fits : Small (r .index) 0 (r .write .goal) = record { index-fits = w .small .index-fits; taken-fits = omega arith; few = w .small .few } in
       record { command = w .command; reply = w .reply; unread = w .unread; write = refl; small = fits }
 
 -- ---- changes that a command brings
 
 module _ (room : ℕ) where
-  kept-start : (c1 : ℕ) (g : Goal) (r : Regs) → wrongWork (r .setting) c1 g 0 ≡ false → Few g → Lawful r room → Lawful (regsChanged (Start c1 g) r) room
-  kept-start c1 (IntoSector id) r e f w =
-      let fits : Small (r .index) 0 (r .write .shape .sectors) = record { index-fits = w .small .index-fits; taken-fits = omega arith; sectors-fit = w .small .sectors-fit } in
-      record { command = w .command; reply = w .reply; unread = w .unread; write = e; small = fits }
-  kept-start c1 (IntoTrack x) r e f w =
-      let fits : Small (r .index) 0 (x .sectors) = record { index-fits = w .small .index-fits; taken-fits = omega arith; sectors-fit = f } in
-      record { command = w .command; reply = w .reply; unread = w .unread; write = e; small = fits }
-
   kept-change : (x : Change) (r : Regs) → Fair (r .setting) x → Lawful r room → Lawful (regsChanged x r) room
   kept-change Clear r f w = record {
     command = record { nine = w .command .nine; below = omega (arith, bytes-range (commandOf (getD (r .command) 0 0)) .0) };
@@ -190,11 +182,13 @@ module _ (room : ℕ) where
   }
   kept-change (MoveTo c) r f w = record { command = w .command; reply = w .reply; unread = w .unread; write = w .write; small = w .small }
   kept-change Turn r f w =
-      let fits : Small ((r .index + 1) % 65536) (r .write .taken) (r .write .shape .sectors) = record { index-fits = mod-lt (r .index + 1) (omega arith); taken-fits = w .small .taken-fits; sectors-fit = w .small .sectors-fit } in
+      let fits : Small ((r .index + 1) % 65536) (r .write .taken) (r .write .goal) = record { index-fits = mod-lt (r .index + 1) (omega arith); taken-fits = w .small .taken-fits; few = w .small .few } in
       record { command = w .command; reply = w .reply; unread = w .unread; write = w .write; small = fits }
-  kept-change (Start c1 g) r f w = kept-start c1 g r (f .0) (f .1) w
+  kept-change (Start c1 g) r f w =
+      let fits : Small (r .index) 0 g = record { index-fits = w .small .index-fits; taken-fits = omega arith; few = f .1 } in
+      record { command = w .command; reply = w .reply; unread = w .unread; write = f .0; small = fits }
   kept-change Finish r f w =
-      let fits : Small (r .index) 0 (r .write .shape .sectors) = record { index-fits = w .small .index-fits; taken-fits = omega arith; sectors-fit = w .small .sectors-fit } in
+      let fits : Small (r .index) 0 (r .write .goal) = record { index-fits = w .small .index-fits; taken-fits = omega arith; few = w .small .few } in
       record { command = w .command; reply = w .reply; unread = w .unread; write = refl; small = fits }
 
   -- none of them changes what the controller was made with

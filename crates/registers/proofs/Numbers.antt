@@ -9,17 +9,21 @@ use lib.Dec.{ltb, leb}
 use borrow.Author.Tests.{ltb-false, leb-false, le-leb, lt-leb, not-false}
 use Rattle.fields.specs.Capacities.{mostHeld}
 use Rattle.fields.specs.Model.{sizeOf}
+use Rattle.fields.specs.declared.id.SectorId.{SectorId}
 use Rattle.fields.proofs.Sizes.{size-most}
 use Rattle.fields.proofs.Tests.{never}
 use Rattle.store.specs.Store.{transferRoom}
 use Rattle.registers.specs.declared.regs.Regs.{Regs}
 use Rattle.registers.specs.declared.regs.Pending.{Pending}
+use Rattle.registers.specs.declared.regs.Goal.{Goal}
+use Rattle.registers.specs.declared.regs.Goal.the-variants.{IntoSector, IntoTrack}
 use Rattle.registers.specs.declared.regs.Setting.{Setting}
+use Rattle.registers.specs.declared.regs.Shape.{Shape}
 use Rattle.codes.specs.Table.{commandOf, bytesFor}
-use Rattle.registers.specs.View.{goalIf, goalOf, isRust, unknownTo, impossible, impossibleIn, wrongWork, wrongWrite}
+use Rattle.registers.specs.View.{unknownTo, impossible, impossibleIn, wrongWork, wrongWrite}
 use Rattle.codes.proofs.Rows.{bytes-range}
 use Rattle.store.proofs.Checks.{transfer-in}
-use Rattle.registers.specs.Boxes.{Goal, IntoSector, IntoTrack, wholeOf, fitted}
+use Rattle.registers.specs.Boxes.{wholeOf, fitted}
 use Rattle.registers.specs.Possible.{Possible, Few}
 
 pub neither : (a b : Bool) → (a || b) ≡ false → (a ≡ false) × (b ≡ false)
@@ -63,12 +67,12 @@ pub whole-most : (g : Goal) → Few g → wholeOf g ≤ mostHeld
 whole-most (IntoSector id) f = size-most (id .n)
 whole-most (IntoTrack x) f = omega (arith, f)
 
-pub goal-few : (p : Pending) → p .shape .sectors < 256 → Few (goalOf p)
-goal-few p h = go (p .track)
-  where
-    go : (v : Bool) → Few (goalIf v (p .id) (p .shape))
-    go true = h
-    go false = tt
+-- of one that is known
+pub sector-whole : (g : Goal) (id : SectorId) (n : ℕ) → g ≡ IntoSector id → n ≡ sizeOf (id .n) → (n ≡ wholeOf g) × (n ≤ mostHeld)
+sector-whole g id n e q = (q ∙ sym (ap wholeOf e), omega (arith, q, size-most (id .n)))
+
+pub track-whole : (g : Goal) (x : Shape) → g ≡ IntoTrack x → x .sectors < 256 → (4 * x .sectors ≡ wholeOf g) × (4 * x .sectors ≤ mostHeld)
+track-whole g x e h = (sym (ap wholeOf e), omega (arith, h))
 
 -- a write that refusal 1 does not name: bytes are to come, and its drive is fitted
 module _ (s : Setting) (c1 : ℕ) (g : Goal) (n : ℕ) where
@@ -100,53 +104,37 @@ module _ (s : Setting) (c1 : ℕ) (g : Goal) (n : ℕ) where
 
 -- the same of a write in progress, for whoever asks
 module _ (s : Setting) (p : Pending) where
-  asked-of : (f v : Bool) → f ≡ true → wrongWork s (p .c1) (goalOf p) (p .taken) ≡ v → v ≡ (f && wrongWork s (p .c1) (goalOf p) (p .taken))
+  asked-of : (f v : Bool) → f ≡ true → wrongWork s (p .c1) (p .goal) (p .taken) ≡ v → v ≡ (f && wrongWork s (p .c1) (p .goal) (p .taken))
   asked-of true v q e = sym e
   asked-of false v q e = never (cc)
 
   pub write-off : p .on ≡ false → false ≡ wrongWrite s p
   write-off q = go (p .on) q
     where
-      go : (f : Bool) → f ≡ false → false ≡ (f && wrongWork s (p .c1) (goalOf p) (p .taken))
+      go : (f : Bool) → f ≡ false → false ≡ (f && wrongWork s (p .c1) (p .goal) (p .taken))
       go true q = never (cc)
       go false q = refl
 
-  pub write-full : p .on ≡ true → wholeOf (goalOf p) ≤ p .taken → true ≡ wrongWrite s p
-  write-full q h = asked-of (p .on) true q (work-full s (p .c1) (goalOf p) (p .taken) h)
+  pub write-full : p .on ≡ true → wholeOf (p .goal) ≤ p .taken → true ≡ wrongWrite s p
+  write-full q h = asked-of (p .on) true q (work-full s (p .c1) (p .goal) (p .taken) h)
 
-  pub write-drive : p .on ≡ true → p .taken < wholeOf (goalOf p) → fitted (p .c1) ≡ false → true ≡ wrongWrite s p
-  write-drive q h e = asked-of (p .on) true q (work-drive s (p .c1) (goalOf p) (p .taken) h e)
+  pub write-drive : p .on ≡ true → p .taken < wholeOf (p .goal) → fitted (p .c1) ≡ false → true ≡ wrongWrite s p
+  write-drive q h e = asked-of (p .on) true q (work-drive s (p .c1) (p .goal) (p .taken) h e)
 
-  pub write-sector : p .on ≡ true → p .taken < wholeOf (goalOf p) → fitted (p .c1) ≡ true → p .track ≡ false → false ≡ wrongWrite s p
-  write-sector q h e t =
-      asked-of (p .on) false q (work-rest s (p .c1) (goalOf p) (p .taken) h e ∙ ap (λ (v : Bool). unknownTo (s .machine) (goalIf v (p .id) (p .shape))) t)
-
-  pub write-track : p .on ≡ true → p .taken < wholeOf (goalOf p) → fitted (p .c1) ≡ true → p .track ≡ true → isRust (s .machine) ≡ wrongWrite s p
-  write-track q h e t =
-      asked-of (p .on) (isRust (s .machine)) q
-      (work-rest s (p .c1) (goalOf p) (p .taken) h e ∙ ap (λ (v : Bool). unknownTo (s .machine) (goalIf v (p .id) (p .shape))) t)
-
--- how many bytes a write takes, by whether it is a Format's
-pub whole-by : (p : Pending) (f : Bool) → p .track ≡ f → wholeOf (goalOf p) ≡ wholeOf (goalIf f (p .id) (p .shape))
-whole-by p f e = ap (λ (v : Bool). wholeOf (goalIf v (p .id) (p .shape))) e
-
-pub track-whole : (p : Pending) (n : ℕ) → p .track ≡ true → n ≡ p .shape .sectors → n < 256 → (4 * n ≡ wholeOf (goalOf p)) × (4 * n ≤ mostHeld)
-track-whole p n e q h = (ap (λ (k : ℕ). 4 * k) q ∙ sym (whole-by p true e), omega (arith, h))
-
-pub sector-whole : (p : Pending) (n : ℕ) → p .track ≡ false → n ≡ sizeOf (p .id .n) → (n ≡ wholeOf (goalOf p)) × (n ≤ mostHeld)
-sector-whole p n e q = (q ∙ sym (whole-by p false e), omega (arith, q, size-most (p .id .n)))
+  pub write-rest : p .on ≡ true → p .taken < wholeOf (p .goal) → fitted (p .c1) ≡ true → unknownTo (s .machine) (p .goal) ≡ wrongWrite s p
+  write-rest q h e = asked-of (p .on) (unknownTo (s .machine) (p .goal)) q (work-rest s (p .c1) (p .goal) (p .taken) h e)
 
 -- a write in progress that refusal 1 does not name
 module _ (s : Setting) (p : Pending) (e : wrongWrite s p ≡ false) where
-  right-of : (f : Bool) → f ≡ true → (f && wrongWork s (p .c1) (goalOf p) (p .taken)) ≡ false → wrongWork s (p .c1) (goalOf p) (p .taken) ≡ false
+  right-of : (f : Bool) → f ≡ true → (f && wrongWork s (p .c1) (p .goal) (p .taken)) ≡ false → wrongWork s (p .c1) (p .goal) (p .taken) ≡ false
   right-of true q h = h
   right-of false q h = never (cc)
 
-  pub write-right : p .on ≡ true → wrongWork s (p .c1) (goalOf p) (p .taken) ≡ false
+  pub write-right : p .on ≡ true → wrongWork s (p .c1) (p .goal) (p .taken) ≡ false
   write-right q = right-of (p .on) q e
 
-  pub taken-few : p .on ≡ true → p .taken < wholeOf (goalOf p)
-  taken-few q = work-below s (p .c1) (goalOf p) (p .taken) (write-right q)
+  pub taken-few : p .on ≡ true → p .taken < wholeOf (p .goal)
+  taken-few q = work-below s (p .c1) (p .goal) (p .taken) (write-right q)
 
   pub fitted-few : p .on ≡ true → fitted (p .c1) ≡ true
-  fitted-few q = work-fitted s (p .c1) (goalOf p) (p .taken) (write-right q)
+  fitted-few q = work-fitted s (p .c1) (p .goal) (p .taken) (write-right q)

@@ -13,7 +13,8 @@ use Rattle.codes.specs.Second.{driveOf}
 use Rattle.registers.specs.declared.regs.Report.{Report}
 use Rattle.registers.specs.declared.regs.Machine.the-variants.{Rust, DataSheet}
 use Rattle.registers.specs.declared.regs.Setting.{Setting}
-use Rattle.registers.specs.declared.regs.Shape.{Shape}
+use Rattle.registers.specs.declared.regs.Goal.{Goal}
+use Rattle.registers.specs.declared.regs.Goal.the-variants.{IntoSector, IntoTrack}
 use Rattle.registers.specs.declared.regs.Seek.{Seek}
 use Rattle.registers.specs.declared.regs.Seek.the-variants.{Idle, Running, Done}
 
@@ -49,12 +50,8 @@ pub record Bay : Type 0 where
 pub record Drives : Type 0 where
   pub first : Bay
 
--- what is written: the data of a sector, by its ID; or, for a Format, the IDs of a track: its n, how many sectors, gap, filler (2026-06)
-pub data Goal : Type 0 where
-  IntoSector : SectorId → Goal
-  IntoTrack : Shape → Goal
-
--- how many bytes that takes: as the sector's n calls for, or four for each ID
+-- what is written, the data of a sector or, for a Format, the IDs of a track (2026-06): how many bytes that takes, as the sector's n calls for, or
+-- four for each ID
 abbrev pub wholeOf : Goal → ℕ
 wholeOf (IntoSector id) = sizeOf (id .n)
 wholeOf (IntoTrack x) = 4 * x .sectors

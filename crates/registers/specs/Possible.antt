@@ -6,8 +6,10 @@ use mathlib.Core.List.{List, [], _∷_}
 use lib.ListN.{length, getD}
 use Rattle.codes.specs.Table.{commandOf, bytesFor}
 use Rattle.registers.specs.declared.regs.Regs.{Regs}
+use Rattle.registers.specs.declared.regs.Goal.{Goal}
+use Rattle.registers.specs.declared.regs.Goal.the-variants.{IntoSector, IntoTrack}
 use Rattle.registers.specs.declared.regs.Setting.{Setting}
-use Rattle.registers.specs.Boxes.{Goal, IntoSector, IntoTrack, Change, Clear, MoveTo, Turn, Start, Finish}
+use Rattle.registers.specs.Boxes.{Change, Clear, MoveTo, Turn, Start, Finish}
 use Rattle.registers.specs.Boxes.{Response, Stay, Reply, ReplyIfNone, Seeking, Interrupt, Serve}
 use Rattle.registers.specs.View.{wrongWork, wrongWrite}
 
@@ -37,11 +39,16 @@ pub record Unread (from until lost room : ℕ) : Type 0 where
   pub inside : until ≤ room
   pub few : lost ≤ 2
 
+-- sectors of a Format as few as a byte can name
+abbrev pub Few : Goal → Type 0
+Few (IntoSector id) = Unit {0}
+Few (IntoTrack x) = x .sectors < 256
+
 -- the index, the fill of a write and the sectors of a Format, as small as their types say
-pub record Small (index taken sectors : ℕ) : Type 0 where
+pub record Small (index taken : ℕ) (goal : Goal) : Type 0 where
   pub index-fits : index < 65536
   pub taken-fits : taken < 65536
-  pub sectors-fit : sectors < 256
+  pub few : Few goal
 
 -- arrays and numbers as their types say, numbers that are possible, and unread data inside the transfer room
 pub record Lawful (r : Regs) (room : ℕ) : Type 0 where
@@ -49,14 +56,9 @@ pub record Lawful (r : Regs) (room : ℕ) : Type 0 where
   pub reply : Replying (r .reply) (r .place) (r .fill)
   pub unread : Unread (r .from) (r .until) (r .lost) room
   pub write : wrongWrite (r .setting) (r .write) ≡ false
-  pub small : Small (r .index) (r .write .taken) (r .write .shape .sectors)
+  pub small : Small (r .index) (r .write .taken) (r .write .goal)
 
 -- ---- What changes and responses must be
-
--- sectors as few as a byte can name
-abbrev pub Few : Goal → Type 0
-Few (IntoSector id) = Unit {0}
-Few (IntoTrack x) = x .sectors < 256
 
 -- a write starts that refusal 1 does not name
 abbrev pub Fair : Setting → Change → Type 0

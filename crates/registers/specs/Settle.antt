@@ -9,13 +9,14 @@ use Rattle.fields.specs.declared.refusal.Refusal.{Refusal}
 use Rattle.registers.specs.declared.regs.Regs.{Regs}
 use Rattle.registers.specs.declared.regs.Drive.{Drive}
 use Rattle.registers.specs.declared.regs.Pending.{Pending}
+use Rattle.registers.specs.declared.regs.Goal.the-variants.{IntoSector}
 use Rattle.registers.specs.declared.regs.Report.{Report}
 use Rattle.registers.specs.declared.regs.Receipt.{Receipt}
 use Rattle.registers.specs.declared.regs.Receipt.the-variants as receipt
 use Rattle.registers.specs.declared.regs.Written.{Written}
 use Rattle.registers.specs.declared.regs.Seek.{Seek}
 use Rattle.registers.specs.declared.regs.Seek.the-variants.{Idle, Running, Done}
-use Rattle.registers.specs.Boxes.{Goal, IntoSector, IntoTrack, fitted, Taking, Add, Hold, Change, Clear, MoveTo, Turn, Start, Finish, Response, Stay, Reply, ReplyIfNone}
+use Rattle.registers.specs.Boxes.{fitted, Taking, Add, Hold, Change, Clear, MoveTo, Turn, Start, Finish, Response, Stay, Reply, ReplyIfNone}
 use Rattle.registers.specs.Boxes.{Seeking, Interrupt, Serve, Effect}
 
 -- ---- The registers, with some of them anew
@@ -172,18 +173,11 @@ sought s r = regsWithDrive (record { cylinder = r .drive .cylinder; seek = s; di
 
 -- no write in progress, all numbers 0
 abbrev pub noPending : Pending
-noPending = record {
-  on = false;
-  c1 = 0;
-  id = record { c = 0; h = 0; r = 0; n = 0 };
-  taken = 0;
-  track = false;
-  shape = record { size = 0; sectors = 0; gap = 0; filler = 0 };
-}
+noPending = record { on = false; c1 = 0; goal = IntoSector (record { c = 0; h = 0; r = 0; n = 0 }); taken = 0 }
 
 -- a write that is in progress or not, with so many bytes held
 abbrev pub pendingWith : Bool → ℕ → Pending → Pending
-pendingWith on n p = record { on = on; c1 = p .c1; id = p .id; taken = n; track = p .track; shape = p .shape }
+pendingWith on n p = record { on = on; c1 = p .c1; goal = p .goal; taken = n }
 
 abbrev pub regsTaken : Taking → Regs → Regs
 regsTaken (Add b) r = regsWithCommand (set (r .command) (r .count) b) (r .count + 1) r
@@ -195,17 +189,12 @@ heldTaken (Hold b) r h = set h (r .write .taken) b
 
 -- ---- Changes and responses
 
--- a write that starts, of a sector or of a track; what it is not leaves its numbers
-abbrev pub pendingFrom : ℕ → Goal → Pending → Pending
-pendingFrom c1 (IntoSector id) p = record { on = true; c1 = c1; id = id; taken = 0; track = false; shape = p .shape }
-pendingFrom c1 (IntoTrack x) p = record { on = true; c1 = c1; id = p .id; taken = 0; track = true; shape = x }
-
 -- a command that is done with leaves its bytes, a write all but its fill
 abbrev pub regsChanged : Change → Regs → Regs
 regsChanged Clear r = regsWithCommand (r .command) 0 r
 regsChanged (MoveTo c) r = regsWithDrive (record { cylinder = c; seek = r .drive .seek; disk = r .drive .disk }) r
 regsChanged Turn r = regsWithIndex ((r .index + 1) % 65536) r
-regsChanged (Start c1 goal) r = regsWithWrite (pendingFrom c1 goal (r .write)) r
+regsChanged (Start c1 goal) r = regsWithWrite (record { on = true; c1 = c1; goal = goal; taken = 0 }) r
 regsChanged Finish r = regsWithWrite (pendingWith false 0 (r .write)) r
 
 unfoldable pub regsAll : List Change → Regs → Regs

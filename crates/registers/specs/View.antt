@@ -9,15 +9,15 @@ use lib.Seq.{slice}
 use lib.Dec.{ltb, leb}
 use Rattle.fields.specs.Refusals.{Result}
 use Rattle.fields.specs.Model.{Disk}
-use Rattle.fields.specs.declared.id.SectorId.{SectorId}
 use Rattle.store.specs.Store.{roomOf, diskOf, transferRoom}
 use Rattle.registers.specs.declared.regs.Regs.{Regs}
 use Rattle.registers.specs.declared.regs.Pending.{Pending}
 use Rattle.registers.specs.declared.regs.Setting.{Setting}
-use Rattle.registers.specs.declared.regs.Shape.{Shape}
+use Rattle.registers.specs.declared.regs.Goal.{Goal}
+use Rattle.registers.specs.declared.regs.Goal.the-variants.{IntoSector, IntoTrack}
 use Rattle.registers.specs.declared.regs.Machine.{Machine}
 use Rattle.registers.specs.declared.regs.Machine.the-variants.{Rust, DataSheet}
-use Rattle.registers.specs.Boxes.{Rooms, Slot, Empty, Holds, Drives, Goal, IntoSector, IntoTrack, wholeOf, Writing, Inside, Front, World}
+use Rattle.registers.specs.Boxes.{Rooms, Slot, Empty, Holds, Drives, wholeOf, Writing, Inside, Front, World}
 use Rattle.registers.specs.Boxes.{fitted, Named, named}
 use Rattle.codes.specs.Table.{commandOf, bytesFor}
 use Rattle.store.specs.declared.answer.Done.the-variants as done
@@ -55,17 +55,9 @@ namedIn c1 r t b = named c1 (drivesOf r t b)
 abbrev pub namedAs : Bool → Drive → Slot → Named
 namedAs f d slot = record { fitted = f; cylinder = d .cylinder; slot = slot }
 
--- what is written: of a track, if the flag says so
-abbrev pub goalIf : Bool → SectorId → Shape → Goal
-goalIf true id x = IntoTrack x
-goalIf false id x = IntoSector id
-
-abbrev pub goalOf : Pending → Goal
-goalOf p = goalIf (p .track) (p .id) (p .shape)
-
 -- a write, and the one that is in progress, if the flag says that one is
 abbrev pub writingOf : Pending → List ℕ → Writing
-writingOf p held = record { c1 = p .c1; goal = goalOf p; held = held }
+writingOf p held = record { c1 = p .c1; goal = p .goal; held = held }
 
 abbrev pub writingIf : Bool → Pending → List ℕ → Option Writing
 writingIf true p h = some (writingOf p (take (p .taken) h))
@@ -119,7 +111,7 @@ unfoldable pub wrongWork : Setting → ℕ → Goal → ℕ → Bool
 wrongWork x c1 goal taken = leb (wholeOf goal) taken || (not (fitted c1) || unknownTo (x .machine) goal)
 
 abbrev pub wrongWrite : Setting → Pending → Bool
-wrongWrite x p = p .on && wrongWork x (p .c1) (goalOf p) (p .taken)
+wrongWrite x p = p .on && wrongWork x (p .c1) (p .goal) (p .taken)
 
 -- controller numbers are impossible: read place past fill, reply over 7 bytes, command not shorter than its length, lost count over 2, or the write
 unfoldable pub impossible : Regs → Bool

@@ -6,6 +6,7 @@ pub use regs::Byte;
 pub use regs::Choice;
 pub use regs::Drive;
 pub use regs::Flag;
+pub use regs::Goal;
 pub use regs::Machine;
 pub use regs::Pending;
 pub use regs::Receipt;

@@ -13,8 +13,8 @@ ghost use lib.ListN.{getD};
 ghost use lib.Dec.{leb};
 ghost use Rattle.fields.specs.Capacities.{mostHeld};
 ghost use Rattle.codes.specs.Table.{commandOf, bytesFor};
-ghost use Rattle.registers.specs.Boxes.{IntoSector, IntoTrack, wholeOf, silent, serves, fitted, seven, Add, Hold, Clear, Turn, Start, Finish, MoveTo};
-ghost use Rattle.registers.specs.View.{isRust, goalOf, impossible, wrongWrite};
+ghost use Rattle.registers.specs.Boxes.{wholeOf, silent, serves, fitted, seven, Add, Hold, Clear, Turn, Start, Finish, MoveTo};
+ghost use Rattle.registers.specs.View.{isRust, unknownTo, impossible, wrongWrite};
 ghost use Rattle.registers.specs.Settle.{accepted, declined, driveNamed, replied, regsWithDrive, noPending, pendingWith, regsTaken, regsChanged, kept};
 
 // The state of the last seek.
@@ -50,15 +50,18 @@ pub struct Shape {
     pub filler: u8,
 }
 
-// A write in progress: the command's second byte, and how many bytes are held; they are those of the sector with this ID, or, for a Format, the
-// IDs of a track of this shape.
+// What is written: the data of the sector with an ID, or, for a Format, the IDs of a track of a shape.
+pub enum Goal {
+    IntoSector(SectorId),
+    IntoTrack(Shape),
+}
+
+// A write in progress: the command's second byte, what is written, and how many bytes are held.
 pub struct Pending {
     pub on: bool,
     pub c1: u8,
-    pub id: SectorId,
+    pub goal: Goal,
     pub taken: u16,
-    pub track: bool,
-    pub shape: Shape,
 }
 
 // In the Rust: `cmd` is `command` and `count`; `reply` is `reply`, `place` and `fill`; `data` is the transfer buffer from `from` up to `until`;
@@ -145,6 +148,28 @@ impl Setting {
     }
 }
 
+impl Goal {
+    // How many bytes it takes.
+    pub fn whole(self) -> usize
+        ensures { λ r. ⌜ (r ≡ wholeOf self) × (r ≤ mostHeld) ⌝ }
+    {
+        match self {
+            Goal::IntoSector(id) => id.len(),
+            Goal::IntoTrack(shape) => 4 * (shape.sectors as usize),
+        }
+    }
+
+    // Whether a machine has no such write: the Rust's has no Format in progress.
+    fn unknown_to(self, setting: Setting) -> bool
+        ensures { λ r. ⌜ r ≡ unknownTo (setting .machine) self ⌝ }
+    {
+        match self {
+            Goal::IntoSector(_) => false,
+            Goal::IntoTrack(_) => setting.is_rust(),
+        }
+    }
+}
+
 impl Pending {
     // No write in progress.
     pub fn none() -> Pending
@@ -156,45 +181,24 @@ impl Pending {
             r: 0,
             n: 0,
         };
-        let shape = Shape {
-            size: 0,
-            sectors: 0,
-            gap: 0,
-            filler: 0,
-        };
         Pending {
             on: false,
             c1: 0,
-            id,
+            goal: Goal::IntoSector(id),
             taken: 0,
-            track: false,
-            shape,
         }
-    }
-
-    // How many bytes it takes.
-    pub fn whole(self) -> usize
-        ensures { λ r. ⌜ (r ≡ wholeOf (goalOf self)) × (r ≤ mostHeld) ⌝ }
-    {
-        if self.track {
-            return 4 * (self.shape.sectors as usize);
-        }
-        self.id.len()
     }
 
     // In progress or not, with so many bytes held.
     fn with(self, on: bool, taken: u16) -> Self
         ensures { λ r. ⌜ r ≡ pendingWith on taken self ⌝ }
     {
-        let id = self.id;
-        let shape = self.shape;
+        let goal = self.goal;
         Pending {
             on,
             c1: self.c1,
-            id,
+            goal,
             taken,
-            track: self.track,
-            shape,
         }
     }
 }
@@ -219,17 +223,15 @@ impl Regs {
         if !p.on {
             return false;
         }
-        if p.whole() <= p.taken as usize {
+        let goal = p.goal;
+        if goal.whole() <= p.taken as usize {
             return true;
         }
         if !fitted(p.c1) {
             return true;
         }
-        if !p.track {
-            return false;
-        }
         let setting = self.setting;
-        setting.is_rust()
+        goal.unknown_to(setting)
     }
 
     // Numbers that no controller has.
@@ -346,37 +348,15 @@ impl Regs {
         self
     }
 
-    // A write of a sector starts.
-    pub fn started(mut self, c1: u8, id: SectorId) -> Self
-        ensures { λ r. ⌜ r ≡ regsChanged (Start c1 (IntoSector id)) self ⌝ }
+    // A write starts, be it of a sector or of a Format's IDs.
+    pub fn started(mut self, c1: u8, goal: Goal) -> Self
+        ensures { λ r. ⌜ r ≡ regsChanged (Start c1 goal) self ⌝ }
     {
-        let p = self.write;
-        let shape = p.shape;
         let write = Pending {
             on: true,
             c1,
-            id,
+            goal,
             taken: 0,
-            track: false,
-            shape,
-        };
-        self.write = write;
-        self
-    }
-
-    // A Format awaits its IDs.
-    pub fn awaiting(mut self, c1: u8, shape: Shape) -> Self
-        ensures { λ r. ⌜ r ≡ regsChanged (Start c1 (IntoTrack shape)) self ⌝ }
-    {
-        let p = self.write;
-        let id = p.id;
-        let write = Pending {
-            on: true,
-            c1,
-            id,
-            taken: 0,
-            track: true,
-            shape,
         };
         self.write = write;
         self

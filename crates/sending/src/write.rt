@@ -8,7 +8,9 @@ use commands::run_cmd;
 use disk::Saved;
 use fields::HELD;
 use fields::Refusal;
+use fields::SectorId;
 use fields::St1;
+use registers::Goal;
 use registers::Receipt;
 use registers::Regs;
 use registers::Written;
@@ -17,19 +19,24 @@ ghost use mathlib.Core.List.{List};
 ghost use Prim.Native.Nat.{ℕ, _<_, _≤_};
 ghost use lib.ListN.{length};
 ghost use Rattle.fields.specs.Capacities.{mostHeld};
-ghost use Rattle.registers.specs.Boxes.{IntoSector, wholeOf};
-ghost use Rattle.registers.specs.View.{goalOf};
+ghost use Rattle.registers.specs.declared.regs.Goal.the-variants.{IntoSector};
+ghost use Rattle.registers.specs.Boxes.{wholeOf};
 ghost use Rattle.commands.specs.Lent.{Stores, intoHere, writtenHere, left, leftOf};
 ghost use Rattle.sending.specs.Calls.{commandHere, dataHere, dataWrite};
 
 // The last byte of a sector is held: the reply, and the sector in the store.
-fn finish_sector(regs: Regs, held: &[u8], table: &mut [u8], bytes: &mut [u8]) -> Written
+fn finish_sector(
+    regs: Regs,
+    id: SectorId,
+    held: &[u8],
+    table: &mut [u8],
+    bytes: &mut [u8],
+) -> Written
     requires { ⌜ length (now held) ≤ mostHeld ⌝ }
-    ensures { λ r. ⌜ ((x : List ℕ) → Stores (intoHere (IntoSector (regs .write .id)) (now (held .entry)) regs (now (table .entry)) (now (bytes .entry)) x)
+    ensures { λ r. ⌜ ((x : List ℕ) → Stores (intoHere (IntoSector id) (now (held .entry)) regs (now (table .entry)) (now (bytes .entry)) x)
         regs (now (table .entry)) (now (bytes .entry)) r (now (table .exit)) (now (bytes .exit))) ⌝ }
 {
     let c1 = regs.write.c1;
-    let id = regs.write.id;
     let d = regs.named(c1);
     let r = regs.finished()
         .reply7(St0::from_c1(c1) + St0::FAIL, St1::END_OF_CYLINDER, 0, id);
@@ -49,26 +56,29 @@ fn finish_write(regs: Regs, held: &[u8], table: &mut [u8], bytes: &mut [u8]) -> 
     ensures { λ r. ⌜ ((x : List ℕ) → Stores (writtenHere (now (held .entry)) regs (now (table .entry)) (now (bytes .entry)) x)
         regs (now (table .entry)) (now (bytes .entry)) r (now (table .exit)) (now (bytes .exit))) ⌝ }
 {
-    if regs.write.track {
-        return finish_format(regs, held, table, bytes);
+    let p = regs.write;
+    let goal = p.goal;
+    match goal {
+        Goal::IntoSector(id) => finish_sector(regs, id, held, table, bytes),
+        Goal::IntoTrack(shape) => finish_format(regs, shape, held, table, bytes),
     }
-    finish_sector(regs, held, table, bytes)
 }
 
 // A byte of a write in progress: the last one has it saved.
 fn data_byte(regs: Regs, b: u8, held: &mut [u8], table: &mut [u8], bytes: &mut [u8]) -> Written
-    requires { ⌜ (length (now held) ≡ mostHeld) × (regs .write .taken < wholeOf (goalOf (regs .write))) ⌝ }
+    requires { ⌜ (length (now held) ≡ mostHeld) × (regs .write .taken < wholeOf (regs .write .goal)) ⌝ }
     ensures { λ r. ⌜ ((x : List ℕ) → left r (now (held .exit)) (now (table .exit)) (now (bytes .exit)) x
         ≡ leftOf (dataHere regs b (now (held .entry)) (now (table .entry)) (now (bytes .entry)) x)
         regs (now (held .entry)) (now (table .entry)) (now (bytes .entry)) x) ⌝ }
 {
     let p = regs.write;
+    let goal = p.goal;
     let at = p.taken as usize;
     let was = held[at];
     held[at] = b;
     let r = regs.holds(b);
     let end = at + 1;
-    if end != p.whole() {
+    if end != goal.whole() {
         return r.done();
     }
     let a = finish_write(r, &held[..end], table, bytes);

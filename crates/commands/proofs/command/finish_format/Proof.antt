@@ -23,7 +23,7 @@ unfolding regsAll
 returns c =
     let n = c .before .before .before .before .before .named in
     λ x.
-    let q = track-none _ _ _ _ _ (n .ensures) x (not-true (n .result .disk) (c .before .if1 .taken)) in
+    let q = track-none _ _ _ _ _ _ (n .ensures) x (not-true (n .result .disk) (c .before .if1 .taken)) in
     (c .done .ensures ∙ simp (c .before .before .before .format-reply .ensures, c .before .before .before .before .finished .ensures) (q .0), q .1)
 
 lay-track-requires : tie.Need-lay-track-requires
@@ -51,7 +51,7 @@ returns-2 : tie.Need-returns-2
 returns-2 c =
     let n = c .before .before .before .before .before .before .before .before .before .before .before .before .before .before .before .named in
     λ x.
-    let q = track-ran _ _ _ _ _ (n .ensures) x _ _ _ _ (not-false (n .result .disk) (c .before .before .before .before .before .before .before .before .before .before .before .if1 .left)) (c .before .before .why .given .1) (c .before .before .before .before .before .before .before .before .lay-track .ensures) in
+    let q = track-ran _ _ _ _ _ _ (n .ensures) x _ _ _ _ (not-false (n .result .disk) (c .before .before .before .before .before .before .before .before .before .before .before .if1 .left)) (c .before .before .why .given .1) (c .before .before .before .before .before .before .before .before .lay-track .ensures) in
     (c .refused .ensures ∙ q .0, q .1)
 
 same-length-3 : tie.Need-same-length-3
@@ -65,7 +65,7 @@ unfolding regsAll
 returns-3 c =
     let n = c .before .before .before .before .before .before .before .before .before .before .before .before .before .before .named in
     λ x.
-    let q = track-ran _ _ _ _ _ (n .ensures) x _ _ _ _ (not-false (n .result .disk) (c .before .before .before .before .before .before .before .before .before .before .if1 .left)) (c .before .enum-told .given .1) (c .before .before .before .before .before .before .before .lay-track .ensures) in
+    let q = track-ran _ _ _ _ _ _ (n .ensures) x _ _ _ _ (not-false (n .result .disk) (c .before .before .before .before .before .before .before .before .before .before .if1 .left)) (c .before .enum-told .given .1) (c .before .before .before .before .before .before .before .lay-track .ensures) in
     (c .done2 .ensures ∙ simp (c .before .before .before .before .before .before .before .before .before .before .before .before .format-reply .ensures, c .before .before .before .before .before .before .before .before .before .before .before .before .before .finished .ensures) (q .0), q .1)
 
 pub finish-format-spec : {M : Type 1} → statement M

@@ -13,14 +13,14 @@ array-read-has-phase-2 c = search needs
 has-phase-requires : tie.Need-has-phase-requires
 has-phase-requires c κs = search needs
 
-array-read-awaiting : tie.Need-array-read-awaiting
-array-read-awaiting c = search needs
+array-read-started : tie.Need-array-read-started
+array-read-started c = search needs
 
 shape-of-requires : tie.Need-shape-of-requires
 shape-of-requires c κs = search needs
 
-awaiting-requires : tie.Need-awaiting-requires
-awaiting-requires c κs = search needs
+started-requires : tie.Need-started-requires
+started-requires c κs = search needs
 
 done-requires : tie.Need-done-requires
 done-requires c κs = search needs
@@ -30,7 +30,7 @@ returns c =
     let h = c .before .before .before .before .has-phase in
     λ x.
     let q = format-phase _ _ _ _ _ (h .ensures) (c .before .before .before .if1 .taken) x in
-    (c .done .ensures ∙ simp (c .before .awaiting .ensures, c .before .before .shape-of .ensures) (q .0), q .1)
+    (c .done .ensures ∙ simp (c .before .started .ensures, c .before .before .shape-of .ensures) (q .0), q .1)
 
 format-at-once-requires : tie.Need-format-at-once-requires
 format-at-once-requires c κs = search needs
@@ -53,9 +53,9 @@ format-track-spec =
     array-read-has-phase
     array-read-has-phase-2
     has-phase-requires
-    array-read-awaiting
+    array-read-started
     shape-of-requires
-    awaiting-requires
+    started-requires
     done-requires
     returns
     format-at-once-requires

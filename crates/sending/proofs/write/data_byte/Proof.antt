@@ -1,22 +1,26 @@
-use mathlib.Core.Path.{refl, ap, _∙_}
+use mathlib.Core.Path.{_≡_, refl, ap, _∙_}
 use Prim.Native.Nat.{_<_, _≤_}
 use native.Mathlib.Omega.{arith}
 use lib.ListN.{length}
 use Rattle.fields.specs.Capacities.{mostHeld}
 use Rattle.registers.specs.Settle.{accepted}
+use Rattle.registers.specs.declared.regs.Goal.{Goal}
+use Rattle.registers.specs.declared.regs.Goal.the-variants.{IntoSector, IntoTrack}
 use Rattle.registers.specs.Boxes.{wholeOf, silent}
-use Rattle.registers.specs.View.{goalOf}
-use Rattle.registers.proofs.Numbers.{whole-most, goal-few}
+use Rattle.registers.specs.Possible.{Few}
+use Rattle.registers.proofs.Numbers.{whole-most}
 use Rattle.sending.proofs.Sends.{set-room, set-count, set-few, set-in, data-part, data-good, data-refused}
 use borrow.Author.Needs.{needs}
 use Rattle.sending.proofs.write.data_byte.Statement.{statement}
 use Rattle.sending.proofs.write.data_byte.Tie as tie
 
 -- no more is written than can be held, so the place is inside
-most : (s : tie.Start) → wholeOf (goalOf (s .args .regs .write)) ≤ mostHeld
-most s =
-    let few : s .args .regs .write .shape .sectors < 256 = search needs in
-    whole-most (goalOf (s .args .regs .write)) (goal-few (s .args .regs .write) few)
+few : (g : Goal) (s : tie.Start) → s .args .regs .write .goal ≡ g → Few g
+few (IntoSector id) s e = tt
+few (IntoTrack x) s e = search needs
+
+most : (s : tie.Start) → wholeOf (s .args .regs .write .goal) ≤ mostHeld
+most s = whole-most (s .args .regs .write .goal) (few (s .args .regs .write .goal) s refl)
 
 room : (s : tie.Start) → s .args .regs .write .taken < length (s .args .held .now)
 room s = omega (arith, most s, s .pre .0, s .pre .1)

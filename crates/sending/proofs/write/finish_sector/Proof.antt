@@ -5,7 +5,8 @@ use borrow.Author.Tests.{not-true, not-false}
 use Rattle.store.specs.Calls.{outcome}
 use Rattle.disk.specs.Calls.{saveOf}
 use Rattle.disk.specs.declared.answer.Saved.{Saved}
-use Rattle.registers.specs.Boxes.{IntoSector, silent, serves, Finish}
+use Rattle.registers.specs.declared.regs.Goal.the-variants.{IntoSector}
+use Rattle.registers.specs.Boxes.{silent, serves, Finish}
 use Rattle.registers.specs.Settle.{accepted, replied, regsChanged}
 use Rattle.commands.specs.Commands.{writeReply}
 use Rattle.commands.specs.Lent.{Stores, intoHere}
@@ -19,7 +20,7 @@ entry c = c .before .before .before .before .before .before .before .before
 
 -- the registers then, where nothing refuses it
 replied-here : (c : tie.After-reply7) → let g = entry c .args in
-    c .reply7 .result ≡ replied (writeReply (g .regs .write .c1) (g .regs .write .id)) (regsChanged Finish (g .regs))
+    c .reply7 .result ≡ replied (writeReply (g .regs .write .c1) (g .id)) (regsChanged Finish (g .regs))
 unfolding writeReply
 replied-here c =
     let f = c .before in
@@ -28,14 +29,14 @@ replied-here c =
 -- and what it answers and leaves by what `save` does
 saved-here : (k : tie.After-save) (a : Saved) (t′ b′ : List ℕ) → k .save .result ≡ a
     → let f = k .before .before .before .before .before .before in let n = f .before .before .before in let s = entry f in let g = s .args in
-    outcome (k .save .result) t′ b′ ≡ saveOf (g .table .now) (g .bytes .now) (k .before .head-of .result) (n .named .result .cylinder) (g .regs .write .id) (g .held .now)
-    → (x : List ℕ) → Stores (intoHere (IntoSector (g .regs .write .id)) (g .held .now) (g .regs) (g .table .now) (g .bytes .now) x) (g .regs) (g .table .now) (g .bytes .now)
-    (saveRegs (g .regs) (g .table .now) (g .bytes .now) (g .held .now) (s .pre) (n .named .result) (n .named .ensures) a) t′ b′
+    outcome (k .save .result) t′ b′ ≡ saveOf (g .table .now) (g .bytes .now) (k .before .head-of .result) (n .named .result .cylinder) (g .id) (g .held .now)
+    → (x : List ℕ) → Stores (intoHere (IntoSector (g .id)) (g .held .now) (g .regs) (g .table .now) (g .bytes .now) x) (g .regs) (g .table .now) (g .bytes .now)
+    (saveRegs (g .regs) (g .id) (g .table .now) (g .bytes .now) (g .held .now) (s .pre) (n .named .result) (n .named .ensures) a) t′ b′
 saved-here k a t′ b′ e w x =
     let i = k .before .before .before .before in
     let f = i .before .before in
     let n = f .before .before .before in
-    finish-ran _ _ _ _ (entry f .pre) _ (n .named .ensures) x _ (k .before .head-of .ensures) _ _ _ _ (not-false (n .named .result .disk) (i .if1 .left)) e w
+    finish-ran _ _ _ _ _ (entry f .pre) _ (n .named .ensures) x _ (k .before .head-of .ensures) _ _ _ _ (not-false (n .named .result .disk) (i .if1 .left)) e w
 
 named-requires : tie.Need-named-requires
 named-requires c κs = search needs
@@ -61,7 +62,7 @@ returns c =
     let f = i .before .before in
     let n = f .before .before .before in
     λ x.
-    let q = finish-none _ _ _ _ (entry f .pre) _ (n .named .ensures) x (not-true (n .named .result .disk) (i .if1 .taken)) in
+    let q = finish-none _ _ _ _ _ (entry f .pre) _ (n .named .ensures) x (not-true (n .named .result .disk) (i .if1 .taken)) in
     (c .done .ensures ∙ ap (accepted silent) (replied-here f) ∙ q .0, q .1)
 
 head-of-requires : tie.Need-head-of-requires

@@ -1,16 +1,15 @@
 use mathlib.Core.Path.{sym, _∙_}
 use Prim.Native.Nat.{_≤_, _<_}
 use native.Mathlib.Omega.{arith}
-use borrow.Author.Needs.{needs}
-use Rattle.registers.specs.Boxes.{wholeOf}
-use Rattle.registers.specs.View.{goalOf}
 use borrow.Author.Tests.{not-true, not-false}
-use Rattle.registers.proofs.Numbers.{write-off, write-full, write-drive, write-sector, write-track}
+use Rattle.registers.specs.Boxes.{wholeOf}
+use Rattle.registers.proofs.Numbers.{write-off, write-full, write-drive, write-rest}
+use borrow.Author.Needs.{needs}
 use Rattle.registers.proofs.regs.Regs.wrong_write.Statement.{statement}
 use Rattle.registers.proofs.regs.Regs.wrong_write.Tie as tie
 
 returns : tie.Need-returns
-returns c = search (needs, write-off, not-true, not-false)
+returns c = write-off (c .before .before .before .args .self .setting) (c .before .before .before .args .self .write) (not-true _ (c .if1 .taken))
 
 whole-requires : tie.Need-whole-requires
 whole-requires c κs = search needs
@@ -21,8 +20,7 @@ cast-if2 c = search needs
 returns-2 : tie.Need-returns-2
 returns-2 c =
     let self = c .before .before .before .before .before .before .args .self in
-    let whole = c .before .before .whole in
-    let full : wholeOf (goalOf (self .write)) ≤ self .write .taken = omega (arith, whole .ensures .0, c .if2 .taken) in
+    let full : wholeOf (self .write .goal) ≤ self .write .taken = omega (arith, c .before .before .whole .ensures .0, c .if2 .taken) in
     write-full (self .setting) (self .write) (not-false _ (c .before .before .before .if1 .left)) full
 
 fitted-requires : tie.Need-fitted-requires
@@ -31,26 +29,18 @@ fitted-requires c κs = search needs
 returns-3 : tie.Need-returns-3
 returns-3 c =
     let self = c .before .before .before .before .before .before .before .before .args .self in
-    let below : self .write .taken < wholeOf (goalOf (self .write)) = omega (arith, c .before .before .before .before .whole .ensures .0, c .before .before .if2 .left) in
-    let other = sym (c .before .fitted .ensures) ∙ not-true _ (c .if3 .taken) in
-    write-drive (self .setting) (self .write) (not-false _ (c .before .before .before .before .before .if1 .left)) below other
+    let below : self .write .taken < wholeOf (self .write .goal) = omega (arith, c .before .before .before .before .whole .ensures .0, c .before .before .if2 .left) in
+    write-drive (self .setting) (self .write) (not-false _ (c .before .before .before .before .before .if1 .left)) below (sym (c .before .fitted .ensures) ∙ not-true _ (c .if3 .taken))
+
+unknown-to-requires : tie.Need-unknown-to-requires
+unknown-to-requires c κs = search needs
 
 returns-4 : tie.Need-returns-4
 returns-4 c =
     let self = c .before .before .before .before .before .before .before .before .before .before .args .self in
-    let below : self .write .taken < wholeOf (goalOf (self .write)) = omega (arith, c .before .before .before .before .before .before .whole .ensures .0, c .before .before .before .before .if2 .left) in
+    let below : self .write .taken < wholeOf (self .write .goal) = omega (arith, c .before .before .before .before .before .before .whole .ensures .0, c .before .before .before .before .if2 .left) in
     let fits = sym (c .before .before .before .fitted .ensures) ∙ not-false _ (c .before .before .if3 .left) in
-    write-sector (self .setting) (self .write) (not-false _ (c .before .before .before .before .before .before .before .if1 .left)) below fits (not-true _ (c .if4 .taken))
-
-is-rust-requires : tie.Need-is-rust-requires
-is-rust-requires c κs = search needs
-
-returns-5 : tie.Need-returns-5
-returns-5 c =
-    let self = c .before .before .before .before .before .before .before .before .before .before .before .before .args .self in
-    let below : self .write .taken < wholeOf (goalOf (self .write)) = omega (arith, c .before .before .before .before .before .before .before .before .whole .ensures .0, c .before .before .before .before .before .before .if2 .left) in
-    let fits = sym (c .before .before .before .before .before .fitted .ensures) ∙ not-false _ (c .before .before .before .before .if3 .left) in
-    c .is-rust .ensures ∙ write-track (self .setting) (self .write) (not-false _ (c .before .before .before .before .before .before .before .before .before .if1 .left)) below fits (not-false _ (c .before .before .if4 .left))
+    c .unknown-to .ensures ∙ write-rest (self .setting) (self .write) (not-false _ (c .before .before .before .before .before .before .before .if1 .left)) below fits
 
 pub wrong-write-spec : {M : Type 1} → statement M
 wrong-write-spec =
@@ -62,6 +52,5 @@ wrong-write-spec =
     returns-2
     fitted-requires
     returns-3
-    returns-4
-    is-rust-requires
-    returns-5)
+    unknown-to-requires
+    returns-4)
