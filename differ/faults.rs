@@ -4,7 +4,7 @@ use crate::chance::Chance;
 use crate::host::{CONTROLLER, TABLE};
 use crate::layout;
 use crate::view::{
-    C1, COUNT, CYLINDER, DISK, FILL, FROM, HELD, ID, KIND, LOST, MOTOR, PLACE, SECTOR, SECTORS,
+    C1, COUNT, CYLINDER, DISK, FILL, FROM, GOAL, HELD, KIND, LOST, MOTOR, PLACE, SECTOR, SECTORS,
     SEEK, SETTING, TAKEN, TRACK, UNTIL, WRITE,
 };
 
@@ -61,10 +61,10 @@ pub fn impossible(controller: &[u8], chance: &mut Chance) -> Vec<u8> {
 
 /// A write that has as many bytes as its sector, or more.
 fn full_write(bytes: &mut [u8], chance: &mut Chance) {
-    let n = chance.small(8);
-    let size = 128u16 << (n & 3);
+    let id = chance.bytes(4);
+    let size = 128u16 << (id[3] & 3);
     (bytes[WRITE], bytes[KIND], bytes[C1]) = (1, SECTOR, 0);
-    bytes[ID + 3] = n;
+    bytes[GOAL..TAKEN].copy_from_slice(&id);
     take(bytes, chance.of(&[size, size + 1, 1_024, 65_535]));
 }
 
@@ -77,6 +77,7 @@ fn wrong_format(bytes: &mut [u8], chance: &mut Chance) {
     let ids = chance.of(&[whole, whole, whole + 1, 1_024, 65_535]);
     let drive = 1 + chance.small(3);
     (bytes[WRITE], bytes[KIND]) = (1, TRACK);
+    bytes[GOAL..TAKEN].copy_from_slice(&chance.bytes(4));
     bytes[SECTORS] = count;
     let (setting, c1, taken) = chance.of(&[(1, 0, ids), (1, drive, part), (0, 0, part)]);
     (bytes[SETTING], bytes[C1]) = (setting, chance.byte() & 0xfc | c1);

@@ -10,7 +10,7 @@ use crate::found::Match;
 pub use words::*;
 
 /// How many bytes a controller has.
-pub const CONTROLLER: usize = 1_072;
+pub const CONTROLLER: usize = 1_068;
 
 /// How many bytes a disk's table has.
 pub const TABLE: usize = 17_609;

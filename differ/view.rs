@@ -2,9 +2,12 @@
 
 use std::fmt;
 
+use raze::floppy::SectorId;
+
 use crate::datasheet::{Format, Model};
 
-/// Where the fields of a controller stand.
+/// Where the fields of a controller stand. The goal of a write is the ID of a sector, or n,
+/// count, gap and filler of a Format: its kind tells which.
 pub const COUNT: usize = 9;
 pub const REPLY: usize = 10;
 pub const PLACE: usize = 17;
@@ -16,20 +19,19 @@ pub const MOTOR: usize = 28;
 pub const INDEX: usize = 29;
 pub const WRITE: usize = 31;
 pub const C1: usize = 32;
-pub const ID: usize = 33;
+pub const GOAL: usize = 33;
 pub const TAKEN: usize = 37;
 pub const CYLINDER: usize = 39;
 pub const SEEK: usize = 40;
 pub const DISK: usize = 41;
 pub const SETTING: usize = 42;
 pub const KIND: usize = 43;
-pub const FORMAT: usize = 44;
-pub const HELD: usize = 48;
+pub const HELD: usize = 44;
 
 /// Where the count of a Format stands.
-pub const SECTORS: usize = FORMAT + 1;
+pub const SECTORS: usize = GOAL + 1;
 
-/// What a write in progress is of: a sector, or a track that is formatted.
+/// The kinds of a write in progress: of a sector, or of a track that is formatted.
 pub const SECTOR: u8 = 0;
 pub const TRACK: u8 = 1;
 
@@ -61,7 +63,7 @@ impl View<'_> {
         (self.long(FROM), self.long(UNTIL))
     }
 
-    /// What a write in progress is of, and the bytes that it has, if there is one.
+    /// The kind of a write in progress, and the bytes that it has, if there is one.
     pub fn held(&self) -> Option<(u8, &[u8])> {
         let held = self.0[HELD..].get(..self.word(TAKEN)).unwrap_or(&[]);
         (self.0[WRITE] == 1).then_some((self.0[KIND], held))
@@ -91,28 +93,43 @@ impl View<'_> {
         wrong.map(|(name, _)| name)
     }
 
+    /// The c1 and the goal of a write.
+    fn numbers(&self) -> &[u8] {
+        &self.0[C1..TAKEN]
+    }
+
     fn writes_as(&self, rust: &Model) -> bool {
         match (self.held(), rust.boxes().write, rust.format()) {
             (None, None, None) => true,
             (Some((SECTOR, held)), Some((c1, id, left, bytes)), None) => {
-                self.0[C1] == c1
-                    && self.0[ID..TAKEN] == [id.c, id.h, id.r, id.n]
+                self.numbers() == of_sector(c1, id)
                     && left + bytes.len() == id.len()
                     && held == bytes
             }
             (Some((TRACK, held)), None, Some(format)) => {
-                self.0[C1] == format.c1
-                    && self.0[FORMAT..HELD] == numbers(format)
-                    && held == format.ids
+                self.numbers() == of_track(format) && held == format.ids
             }
             _ => false,
         }
     }
 }
 
-/// The numbers of a Format, all but its c1.
-fn numbers(format: &Format) -> [u8; 4] {
-    [format.n, format.count, format.gap, format.filler]
+/// The c1 and the goal of a write of this sector.
+fn of_sector(c1: u8, id: &SectorId) -> [u8; 5] {
+    [c1, id.c, id.h, id.r, id.n]
+}
+
+/// The c1 and the goal of this Format.
+fn of_track(format: &Format) -> [u8; 5] {
+    let Format {
+        c1,
+        n,
+        count,
+        gap,
+        filler,
+        ..
+    } = *format;
+    [c1, n, count, gap, filler]
 }
 
 /// The boxes in words.
@@ -135,14 +152,8 @@ impl fmt::Display for View<'_> {
         )?;
         match self.held() {
             None => write!(f, "write none"),
-            Some((SECTOR, held)) => {
-                let id = &self.0[C1..TAKEN];
-                write!(f, "write c1 and id {id:02x?} held {} bytes", held.len())
-            }
-            Some((_, held)) => {
-                let (c1, numbers) = (self.0[C1], &self.0[FORMAT..HELD]);
-                write!(f, "format c1 {c1:02x} {numbers:02x?} ids {held:02x?}")
-            }
+            Some((SECTOR, held)) => write_sector(f, self.numbers(), held),
+            Some((_, held)) => write_track(f, self.numbers(), held),
         }
     }
 }
@@ -169,16 +180,18 @@ impl fmt::Display for Rust<'_> {
             boxes.data.len(),
         )?;
         match (boxes.write, self.0.format()) {
-            (Some((c1, id, _, held)), _) => {
-                let id = [c1, id.c, id.h, id.r, id.n];
-                write!(f, "write c1 and id {id:02x?} held {} bytes", held.len())
-            }
-            (None, Some(format)) => {
-                let (c1, ids) = (format.c1, &format.ids);
-                let numbers = numbers(format);
-                write!(f, "format c1 {c1:02x} {numbers:02x?} ids {ids:02x?}")
-            }
+            (Some((c1, id, _, held)), _) => write_sector(f, &of_sector(c1, id), held),
+            (None, Some(format)) => write_track(f, &of_track(format), &format.ids),
             (None, None) => write!(f, "write none"),
         }
     }
+}
+
+fn write_sector(f: &mut fmt::Formatter<'_>, numbers: &[u8], held: &[u8]) -> fmt::Result {
+    let length = held.len();
+    write!(f, "write c1 and id {numbers:02x?} held {length} bytes")
+}
+
+fn write_track(f: &mut fmt::Formatter<'_>, numbers: &[u8], ids: &[u8]) -> fmt::Result {
+    write!(f, "format c1 and numbers {numbers:02x?} ids {ids:02x?}")
 }

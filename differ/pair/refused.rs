@@ -8,9 +8,7 @@ use super::Pair;
 use crate::capacities::MOST_TRANSFER;
 use crate::chance::Chance;
 use crate::host::CONTROLLER;
-use crate::view::{
-    C1, COUNT, CYLINDER, FILL, FORMAT, HELD, ID, KIND, PLACE, REPLY, SECTOR, TAKEN, View,
-};
+use crate::view::{C1, COUNT, CYLINDER, FILL, HELD, KIND, PLACE, REPLY, View};
 use crate::watch::{Checked, Difference};
 use crate::{faults, host};
 
@@ -118,8 +116,8 @@ impl Pair<'_> {
     }
 
     /// Changes bytes of the controller that do not count: of a command, a reply and
-    /// a write behind their ends, of a write where none is in progress, and of a sector
-    /// or of a track where the write is of the other. What it is of stays a flag.
+    /// a write behind their ends, and of a write where none is in progress, whose kind
+    /// stays one of the two.
     pub fn scramble(&mut self, chance: &mut Chance) -> Checked {
         let bytes = &mut self.controller;
         let mut noise = chance.bytes(bytes.len());
@@ -127,18 +125,18 @@ impl Pair<'_> {
         let count: usize = bytes[COUNT].into();
         let read = REPLY + usize::from(bytes[PLACE]);
         let filled = REPLY + usize::from(bytes[FILL]);
-        let (pending, held) = match View(bytes).held() {
-            None => ([C1..CYLINDER, KIND..HELD], 0),
-            Some((SECTOR, held)) => ([0..0, FORMAT..HELD], held.len()),
-            Some((_, held)) => ([0..0, ID..TAKEN], held.len()),
+        let (numbers, behind) = match View(bytes).held() {
+            None => (C1..CYLINDER, KIND),
+            Some((_, held)) => (0..0, HELD + held.len()),
         };
         let dead = [
             count..COUNT,
             REPLY..read,
             filled..PLACE,
-            HELD + held..bytes.len(),
+            numbers,
+            behind..bytes.len(),
         ];
-        for range in dead.into_iter().chain(pending) {
+        for range in dead {
             bytes[range.clone()].copy_from_slice(&noise[range]);
         }
         self.say("bytes of the controller that do not count are changed");

@@ -4,7 +4,7 @@
  *
  * All bytes are the host's. It lends them to each call, and the library keeps nothing between calls:
  *
- *   controller   floppy_controller_length() bytes (1,072), made by floppy_new, floppy_new_with or floppy_read_sheet;
+ *   controller   floppy_controller_length() bytes (1,068), made by floppy_new, floppy_new_with or floppy_read_sheet;
  *                docs/HOST.md has their layout
  *   table        disk_table_length() bytes (17,609), and
  *   data         bytes for the sectors' contents (room: its length, or 1,048,576 if that is less): together the

@@ -190,9 +190,18 @@ fn done(word: u64) -> Result<(), Refusal> {
 mod tests {
     use super::*;
 
+    /// Where numbers of a controller stand. The goal of a write is c, h, r and n of its sector, or n, count, gap and
+    /// filler of a Format; the kind tells which.
+    const WRITE: usize = 31;
+    const C1: usize = 32;
+    const GOAL: usize = 33;
+    const TAKEN: usize = 37;
+    const SETTING: usize = 42;
+    const KIND: usize = 43;
+
     #[test]
     fn lengths_are_those_of_the_documents() {
-        assert_eq!(controller_length(), 1_072);
+        assert_eq!(controller_length(), 1_068);
         assert_eq!(table_length(), 17_609);
         assert_eq!(sheet_length(), 66_615);
     }
@@ -239,28 +248,48 @@ mod tests {
             let mut own = vec![5; controller_length()];
             assert_eq!(words::new_with(&mut own, setting), 0);
             assert_eq!(words::setting(&own), machine);
-            assert_eq!(std::mem::take(&mut own[42]), machine as u8);
+            assert_eq!(std::mem::take(&mut own[SETTING]), machine as u8);
             assert_eq!(own, vec![0; controller_length()]);
         }
     }
 
     #[test]
     fn a_format_that_no_controller_has_is_1() {
-        // Setting, what the write in progress is of, c1, sectors, and how many bytes are held.
+        // Setting, c1, n, count, gap and filler, and how many bytes are held.
         let cases = [
-            ([1, 1, 0, 1, 0], 0),
-            ([1, 1, 4, 9, 35], 0),
-            ([1, 1, 0, 9, 36], 1),
-            ([1, 1, 0, 0, 0], 1),
-            ([1, 1, 1, 1, 0], 1),
-            ([0, 1, 0, 1, 0], 1),
-            ([2, 0, 0, 0, 0], 1),
-            ([1, 2, 0, 1, 0], 1),
+            (1, 0, [0, 1, 0, 0], 3, 0),
+            (1, 4, [2, 9, 0x2a, 0xe5], 35, 0),
+            (1, 4, [2, 9, 0x2a, 0xe5], 36, 1),
+            (1, 0, [0, 250, 0, 0], 200, 0),
+            (1, 0, [3, 0, 0, 3], 0, 1),
+            (1, 1, [0, 1, 0, 0], 0, 1),
+            (0, 0, [0, 1, 0, 0], 0, 1),
         ];
-        for ([setting, of, c1, sectors, held], number) in cases {
+        for (setting, c1, goal, taken, number) in cases {
             let mut own = vec![0; controller_length()];
-            (own[42], own[31], own[43]) = (setting, 1, of);
-            (own[32], own[45], own[37]) = (c1, sectors, held);
+            (own[SETTING], own[WRITE], own[KIND]) = (setting, 1, 1);
+            (own[C1], own[TAKEN]) = (c1, taken);
+            own[GOAL..TAKEN].copy_from_slice(&goal);
+            assert_eq!(words::motor(&own), number << 8);
+        }
+    }
+
+    #[test]
+    fn a_setting_and_a_kind_of_write_over_1_are_1_also_where_there_is_no_write() {
+        // Setting, write in progress, and its kind.
+        let cases = [
+            ([1, 0, 1], 0),
+            ([0, 0, 1], 0),
+            ([0, 1, 0], 0),
+            ([2, 0, 0], 1),
+            ([2, 1, 0], 1),
+            ([0, 0, 2], 1),
+            ([1, 0, 2], 1),
+            ([1, 1, 2], 1),
+        ];
+        for ([setting, write, kind], number) in cases {
+            let mut own = vec![0; controller_length()];
+            (own[SETTING], own[WRITE], own[KIND]) = (setting, write, kind);
             assert_eq!(words::motor(&own), number << 8);
         }
     }

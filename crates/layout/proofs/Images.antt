@@ -34,9 +34,10 @@ laid-parts l l₁ l₂ l₃ x y z r p q s e f g =
 
 -- ---- bytes that a controller has, and others
 
-pub formed-all : (l : List ℕ) → length l ≡ controllerLength → byteAt l 28 ≤ 1 → byteAt l 31 ≤ 1 → byteAt l 40 ≤ 2 → leb (byteAt l 41) 1 ≡ formed l
+pub formed-all : (l : List ℕ) → length l ≡ controllerLength → byteAt l 28 ≤ 1 → byteAt l 31 ≤ 1 → byteAt l 40 ≤ 2 → byteAt l 41 ≤ 1 → byteAt l 42 ≤ 1
+    → leb (byteAt l 43) 1 ≡ formed l
 unfolding formed
-formed-all l h a b c = rw (eq-eqb _ _ h, le-leb _ _ a, le-leb _ _ b, le-leb _ _ c)
+formed-all l h a b c d x = rw (eq-eqb _ _ h, le-leb _ _ a, le-leb _ _ b, le-leb _ _ c, le-leb _ _ d, le-leb _ _ x)
 
 pub formed-long : (l : List ℕ) → formed l ≡ true → length l ≡ controllerLength
 unfolding formed

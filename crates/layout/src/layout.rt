@@ -1,21 +1,26 @@
-// The controller as bytes that the host lends: 42 bytes of numbers, then the 1,024 held bytes. docs/HOST.md has the layout.
+// The controller as bytes that the host lends: 44 bytes of numbers, then the 1,024 held bytes. docs/HOST.md has the layout.
 use fields::HELD;
 use fields::SectorId;
 use fields::word_at;
 use registers::Drive;
+use registers::Goal;
+use registers::Machine;
 use registers::Pending;
 use registers::Regs;
 use registers::Seek;
+use registers::Setting;
+use registers::Shape;
 ghost use mathlib.Core.Path.{_≡_};
 ghost use Prim.Native.Nat.{_+_, _≤_};
 ghost use mathlib.Core.List.{[]};
 ghost use lib.ListN.{length};
 ghost use Rattle.fields.specs.Bytes.{numberAt};
-ghost use Rattle.layout.specs.Layout.{controllerLength, flagByte, seekByte, partFor, commandFor, readingFor, stateFor, numbersFor};
+ghost use Rattle.layout.specs.Layout.{controllerLength, flagByte, seekByte, settingByte, kindByte, goalBytes, partFor, commandFor, readingFor};
+ghost use Rattle.layout.specs.Layout.{stateFor, numbersFor, settingAt, goalIf};
 ghost use Rattle.layout.specs.Layout.{flagAt, seekAt, writeAt, driveAt, regsAt, heldAt, formed};
 
 // How many bytes the numbers take; the held bytes stand behind them.
-pub const NUMBERS: usize = 42;
+pub const NUMBERS: usize = 44;
 
 pub const LENGTH: usize = NUMBERS + HELD;
 
@@ -53,6 +58,66 @@ pub fn seek_byte(s: Seek) -> u8
     }
 }
 
+// The machine is bit 0 of a setting.
+pub fn setting_at(b: u8) -> Setting
+    ensures { λ r. ⌜ r ≡ settingAt b ⌝ }
+{
+    if flag_at(b) {
+        return Setting {
+            machine: Machine::DataSheet,
+        };
+    }
+    Setting {
+        machine: Machine::Rust,
+    }
+}
+
+pub fn setting_byte(s: Setting) -> u8
+    ensures { λ r. ⌜ r ≡ settingByte s ⌝ }
+{
+    if s.is_rust() { 0 } else { 1 }
+}
+
+// What is written, by its kind and its four numbers, and these.
+pub fn goal_of(track: bool, i: u8, j: u8, k: u8, m: u8) -> Goal
+    ensures { λ r. ⌜ r ≡ goalIf track i j k m ⌝ }
+{
+    if track {
+        let shape = Shape {
+            size: i,
+            sectors: j,
+            gap: k,
+            filler: m,
+        };
+        return Goal::IntoTrack(shape);
+    }
+    let id = SectorId {
+        c: i,
+        h: j,
+        r: k,
+        n: m,
+    };
+    Goal::IntoSector(id)
+}
+
+pub fn kind_byte(g: Goal) -> u8
+    ensures { λ r. ⌜ r ≡ kindByte g ⌝ }
+{
+    match g {
+        Goal::IntoSector(_) => 0,
+        Goal::IntoTrack(_) => 1,
+    }
+}
+
+pub fn goal_bytes(g: Goal) -> [u8; 4]
+    ensures { λ b. ⌜ b ≡ goalBytes g ⌝ }
+{
+    match g {
+        Goal::IntoSector(id) => [id.c, id.h, id.r, id.n],
+        Goal::IntoTrack(x) => [x.size, x.sectors, x.gap, x.filler],
+    }
+}
+
 // The number in four bytes from a place, the lowest first.
 fn long_at(c: &[u8], at: usize) -> u32
     requires { ⌜ at + 4 ≤ length (now c) ⌝ }
@@ -77,7 +142,13 @@ pub fn formed(c: &[u8]) -> bool
     if 2 < c[40] {
         return false;
     }
-    c[41] <= 1
+    if 1 < c[41] {
+        return false;
+    }
+    if 1 < c[42] {
+        return false;
+    }
+    c[43] <= 1
 }
 
 // The parts of the registers that are in these bytes.
@@ -99,16 +170,11 @@ fn write_at(c: &[u8]) -> Pending
     requires { ⌜ length (now c) ≡ controllerLength ⌝ }
     ensures { λ r. ⌜ r ≡ writeAt (now (c .entry)) ⌝ }
 {
-    let id = SectorId {
-        c: c[33],
-        h: c[34],
-        r: c[35],
-        n: c[36],
-    };
+    let goal = goal_of(flag_at(c[43]), c[33], c[34], c[35], c[36]);
     Pending {
         on: flag_at(c[31]),
         c1: c[32],
-        id,
+        goal,
         taken: word_at(c, 37) as u16,
     }
 }
@@ -146,6 +212,7 @@ pub fn decode(c: &[u8]) -> Regs
         index: word_at(c, 29) as u16,
         write,
         drive,
+        setting: setting_at(c[42]),
     }
 }
 
@@ -196,12 +263,13 @@ fn reading_bytes(r: Regs) -> [u8; 11]
     ]
 }
 
-fn state_bytes(r: Regs) -> [u8; 14]
+fn state_bytes(r: Regs) -> [u8; 16]
     ensures { λ b. ⌜ b ≡ stateFor r [] ⌝ }
 {
     let i = r.index;
     let p = r.write;
-    let d = p.id;
+    let g = p.goal;
+    let d = goal_bytes(g);
     let t = p.taken;
     let v = r.drive;
     let s = v.seek;
@@ -211,15 +279,17 @@ fn state_bytes(r: Regs) -> [u8; 14]
         (i / 256 % 256) as u8,
         flag_byte(p.on),
         p.c1,
-        d.c,
-        d.h,
-        d.r,
-        d.n,
+        d[0],
+        d[1],
+        d[2],
+        d[3],
         (t % 256) as u8,
         (t / 256 % 256) as u8,
         v.cylinder,
         seek_byte(s),
         flag_byte(v.disk),
+        setting_byte(r.setting),
+        kind_byte(g),
     ]
 }
 

@@ -1,4 +1,4 @@
-// A controller as the bytes that a host lends: 42 for the registers, and behind them the held bytes of a write. docs/HOST.md describes them.
+// A controller as the bytes that a host lends: 44 for the registers, and behind them the held bytes of a write. docs/HOST.md describes them.
 mod layout;
 
 pub use layout::LENGTH;
@@ -6,8 +6,13 @@ pub use layout::NUMBERS;
 pub use layout::flag_at;
 pub use layout::flag_byte;
 pub use layout::formed;
+pub use layout::goal_bytes;
+pub use layout::goal_of;
+pub use layout::kind_byte;
 pub use layout::seek_at;
 pub use layout::seek_byte;
+pub use layout::setting_at;
+pub use layout::setting_byte;
 
 // For the crate above only: they have a `requires`.
 pub use layout::decode;

@@ -73,12 +73,13 @@ fn data_byte(regs: Regs, b: u8, held: &mut [u8], table: &mut [u8], bytes: &mut [
 {
     let p = regs.write;
     let goal = p.goal;
+    let whole = goal.whole();
     let at = p.taken as usize;
     let was = held[at];
     held[at] = b;
     let r = regs.holds(b);
     let end = at + 1;
-    if end != goal.whole() {
+    if end != whole {
         return r.done();
     }
     let a = finish_write(r, &held[..end], table, bytes);

@@ -53,8 +53,8 @@ format-track-spec =
     array-read-has-phase
     array-read-has-phase-2
     has-phase-requires
-    array-read-started
     shape-of-requires
+    array-read-started
     started-requires
     done-requires
     returns

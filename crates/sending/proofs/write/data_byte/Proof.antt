@@ -1,50 +1,42 @@
-use mathlib.Core.Path.{_≡_, refl, ap, _∙_}
-use Prim.Native.Nat.{_<_, _≤_}
+use mathlib.Core.Path.{refl, ap, _∙_}
+use Prim.Native.Nat.{_<_}
 use native.Mathlib.Omega.{arith}
 use lib.ListN.{length}
 use Rattle.fields.specs.Capacities.{mostHeld}
+use Rattle.registers.specs.Boxes.{silent}
 use Rattle.registers.specs.Settle.{accepted}
-use Rattle.registers.specs.declared.regs.Goal.{Goal}
-use Rattle.registers.specs.declared.regs.Goal.the-variants.{IntoSector, IntoTrack}
-use Rattle.registers.specs.Boxes.{wholeOf, silent}
-use Rattle.registers.specs.Possible.{Few}
-use Rattle.registers.proofs.Numbers.{whole-most}
 use Rattle.sending.proofs.Sends.{set-room, set-count, set-few, set-in, data-part, data-good, data-refused}
 use borrow.Author.Needs.{needs}
 use Rattle.sending.proofs.write.data_byte.Statement.{statement}
 use Rattle.sending.proofs.write.data_byte.Tie as tie
 
+abbrev entry : tie.After-whole → tie.Start
+entry w = w .before .before .before .before .before
+
 -- no more is written than can be held, so the place is inside
-few : (g : Goal) (s : tie.Start) → s .args .regs .write .goal ≡ g → Few g
-few (IntoSector id) s e = tt
-few (IntoTrack x) s e = search needs
+small : (w : tie.After-whole) → entry w .args .regs .write .taken < mostHeld
+small w = omega (arith, w .whole .ensures .0, w .whole .ensures .1, entry w .pre .1)
 
-most : (s : tie.Start) → wholeOf (s .args .regs .write .goal) ≤ mostHeld
-most s = whole-most (s .args .regs .write .goal) (few (s .args .regs .write .goal) s refl)
+room : (w : tie.After-whole) → entry w .args .regs .write .taken < length (entry w .args .held .now)
+room w = omega (arith, small w, entry w .pre .0)
 
-room : (s : tie.Start) → s .args .regs .write .taken < length (s .args .held .now)
-room s = omega (arith, most s, s .pre .0, s .pre .1)
-
-small : (s : tie.Start) → s .args .regs .write .taken < mostHeld
-small s = omega (arith, most s, s .pre .1)
+whole-requires : tie.Need-whole-requires
+whole-requires c κs = search needs
 
 cast-at : tie.Need-cast-at
 cast-at c = search needs
 
 slice-read-was : tie.Need-slice-read-was
-slice-read-was c = room (c .before .before .before .before .before .before)
+slice-read-was c = search needs
 
 slice-write-held : tie.Need-slice-write-held
-slice-write-held c = room (c .before .before .before .before .before .before)
+slice-write-held c = search needs
 
 holds-requires : tie.Need-holds-requires
-holds-requires c κs = small (c .before .before .before .before .before .before)
+holds-requires c κs = search needs
 
 add-end : tie.Need-add-end
 add-end c = search needs
-
-whole-requires : tie.Need-whole-requires
-whole-requires c κs = search needs
 
 done-requires : tie.Need-done-requires
 done-requires c κs = search needs
@@ -54,30 +46,28 @@ same-length c = search needs
 
 returns : tie.Need-returns
 returns c =
-    let start = c .before .before .before .before .before .before .before .before .before .before in
-    let args = start .args in
-    let holds = c .before .before .before .holds in
-    let whole = c .before .before .whole in
-    λ x. data-part (args .regs) (args .b) (args .held .now) (args .table .now) (args .bytes .now) x (room start) (whole .result) _ (whole .ensures .0)
-    (c .before .if1 .taken) (c .done .ensures ∙ ap (accepted silent) (holds .ensures))
+    let w = c .before .before .before .before .before in
+    let args = entry w .args in
+    λ x. data-part (args .regs) (args .b) (args .held .now) (args .table .now) (args .bytes .now) x (room w) (w .whole .result) _ (w .whole .ensures .0)
+    (c .before .if1 .taken) (c .done .ensures ∙ ap (accepted silent) (c .before .before .holds .ensures))
 
 slice-reshare-prefix-finish-write : tie.Need-slice-reshare-prefix-finish-write
 slice-reshare-prefix-finish-write c =
-    let start = c .before .before .before .before .before .before .before .before .before in
-    let args = start .args in
-    set-room (args .held .now) (args .regs .write .taken) (args .b) (room start)
+    let w = c .before .before .before .before in
+    let args = entry w .args in
+    set-room (args .held .now) (args .regs .write .taken) (args .b) (room w)
 
 slice-aggregate-finish-write : tie.Need-slice-aggregate-finish-write
 slice-aggregate-finish-write c =
-    let start = c .before .before .before .before .before .before .before .before .before .before in
-    let args = start .args in
-    set-count (args .held .now) (args .regs .write .taken) (args .b) (room start)
+    let w = c .before .before .before .before .before in
+    let args = entry w .args in
+    set-count (args .held .now) (args .regs .write .taken) (args .b) (room w)
 
 finish-write-requires : tie.Need-finish-write-requires
 finish-write-requires c κs =
-    let start = c .before .before .before .before .before .before .before .before .before .before .before .before in
-    let args = start .args in
-    set-few (args .held .now) (args .regs .write .taken) (args .b) (room start) (small start)
+    let w = c .before .before .before .before .before .before .before in
+    let args = entry w .args in
+    set-few (args .held .now) (args .regs .write .taken) (args .b) (room w) (small w)
 
 enum-told : tie.Need-enum-told
 enum-told c = search needs
@@ -87,9 +77,9 @@ enum-known-receipt c = search needs
 
 slice-write-held-2 : tie.Need-slice-write-held-2
 slice-write-held-2 c =
-    let start = c .before .before .before .before .before .before .before .before .before .before .before .before .before .before .before .before .before .before .before .before in
-    let args = start .args in
-    set-in (args .held .now) (args .regs .write .taken) (args .b) (room start)
+    let w = c .before .before .before .before .before .before .before .before .before .before .before .before .before .before .before in
+    let args = entry w .args in
+    set-in (args .held .now) (args .regs .write .taken) (args .b) (room w)
 
 refused-requires : tie.Need-refused-requires
 refused-requires c κs = search needs
@@ -105,14 +95,12 @@ same-length-4 c = search needs
 
 returns-2 : tie.Need-returns-2
 returns-2 c =
-    let start = c .before .before .before .before .before .before .before .before .before .before .before .before .before .before .before .before .before .before .before in
-    let args = start .args in
-    let holds = c .before .before .before .before .before .before .before .before .before .before .before .before .holds in
-    let whole = c .before .before .before .before .before .before .before .before .before .before .before .whole in
-    let if1 = c .before .before .before .before .before .before .before .before .before .before .if1 in
+    let w = c .before .before .before .before .before .before .before .before .before .before .before .before .before .before in
+    let args = entry w .args in
+    let holds = c .before .before .before .before .before .before .before .before .before .before .before .holds in
     let finish-write = c .before .before .before .before .before .before .finish-write in
-    λ x. data-good (args .regs) (args .b) (args .held .now) (args .table .now) (args .bytes .now) x (room start) (whole .result) (finish-write .result) _ _
-    (whole .ensures .0) (if1 .left) (holds .result) _ (holds .ensures) refl _ (c .enum-told .given .1) (finish-write .ensures x)
+    λ x. data-good (args .regs) (args .b) (args .held .now) (args .table .now) (args .bytes .now) x (room w) (w .whole .result) (finish-write .result) _ _
+    (w .whole .ensures .0) (c .before .before .before .before .before .before .before .before .before .before .if1 .left) (holds .result) _ (holds .ensures) refl _ (c .enum-told .given .1) (finish-write .ensures x)
 
 same-length-5 : tie.Need-same-length-5
 same-length-5 c = search needs
@@ -125,26 +113,23 @@ same-length-7 c = search needs
 
 returns-3 : tie.Need-returns-3
 returns-3 c =
-    let start = c .before .before .before .before .before .before .before .before .before .before .before .before .before .before .before .before .before .before .before .before .before in
-    let args = start .args in
-    let holds = c .before .before .before .before .before .before .before .before .before .before .before .before .before .before .holds in
-    let whole = c .before .before .before .before .before .before .before .before .before .before .before .before .before .whole in
-    let if1 = c .before .before .before .before .before .before .before .before .before .before .before .before .if1 in
+    let w = c .before .before .before .before .before .before .before .before .before .before .before .before .before .before .before .before in
+    let args = entry w .args in
+    let holds = c .before .before .before .before .before .before .before .before .before .before .before .before .before .holds in
     let finish-write = c .before .before .before .before .before .before .before .before .finish-write in
-    let receipt = c .before .before .receipt in
-    λ x. data-refused (args .regs) (args .b) (args .held .now) (args .table .now) (args .bytes .now) x (room start) (whole .result) (finish-write .result) _
-    _ (whole .ensures .0) (if1 .left) (holds .result) _ (holds .ensures) refl _ _ (receipt .given .1) (c .refused .ensures) (finish-write .ensures x)
+    λ x. data-refused (args .regs) (args .b) (args .held .now) (args .table .now) (args .bytes .now) x (room w) (w .whole .result) (finish-write .result) _ _
+    (w .whole .ensures .0) (c .before .before .before .before .before .before .before .before .before .before .before .before .if1 .left) (holds .result) _ (holds .ensures) refl _ _ (c .before .before .receipt .given .1) (c .refused .ensures) (finish-write .ensures x)
 
 pub data-byte-spec : {M : Type 1} → statement M
 data-byte-spec =
     tie.close
     (tie.spec
+    whole-requires
     cast-at
     slice-read-was
     slice-write-held
     holds-requires
     add-end
-    whole-requires
     done-requires
     same-length
     returns

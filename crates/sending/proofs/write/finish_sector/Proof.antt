@@ -16,7 +16,7 @@ use Rattle.sending.proofs.write.finish_sector.Statement.{statement}
 use Rattle.sending.proofs.write.finish_sector.Tie as tie
 
 abbrev entry : tie.After-reply7 → tie.Start
-entry c = c .before .before .before .before .before .before .before .before
+entry c = c .before .before .before .before .before .before .before
 
 -- the registers then, where nothing refuses it
 replied-here : (c : tie.After-reply7) → let g = entry c .args in
