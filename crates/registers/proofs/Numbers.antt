@@ -20,10 +20,11 @@ use Rattle.registers.specs.declared.regs.Goal.the-variants.{IntoSector, 
 use Rattle.registers.specs.declared.regs.Setting.{Setting}
 use Rattle.registers.specs.declared.regs.Shape.{Shape}
 use Rattle.codes.specs.Table.{commandOf, bytesFor}
-use Rattle.registers.specs.View.{unknownTo, impossible, impossibleIn, wrongWork, wrongWrite}
+use Rattle.registers.specs.View.{goalIf, goalOf, unknownTo, impossible, impossibleIn, wrongWork, wrongWrite}
 use Rattle.codes.proofs.Rows.{bytes-range}
 use Rattle.store.proofs.Checks.{transfer-in}
 use Rattle.registers.specs.Boxes.{wholeOf, fitted}
+use Rattle.registers.specs.Settle.{trackIn, targetIn}
 use Rattle.registers.specs.Possible.{Possible, Few}
 
 pub neither : (a b : Bool) → (a || b) ≡ false → (a ≡ false) × (b ≡ false)
@@ -67,6 +68,11 @@ pub whole-most : (g : Goal) → Few g → wholeOf g ≤ mostHeld
 whole-most (IntoSector id) f = size-most (id .n)
 whole-most (IntoTrack x) f = omega (arith, f)
 
+-- what starts is what is then written
+pub goal-kept : (g : Goal) → goalIf (trackIn g) (targetIn g) ≡ g
+goal-kept (IntoSector id) = refl
+goal-kept (IntoTrack x) = refl
+
 -- of one that is known
 pub sector-whole : (g : Goal) (id : SectorId) (n : ℕ) → g ≡ IntoSector id → n ≡ sizeOf (id .n) → (n ≡ wholeOf g) × (n ≤ mostHeld)
 sector-whole g id n e q = (q ∙ sym (ap wholeOf e), omega (arith, q, size-most (id .n)))
@@ -104,37 +110,37 @@ module _ (s : Setting) (c1 : ℕ) (g : Goal) (n : ℕ) where
 
 -- the same of a write in progress, for whoever asks
 module _ (s : Setting) (p : Pending) where
-  asked-of : (f v : Bool) → f ≡ true → wrongWork s (p .c1) (p .goal) (p .taken) ≡ v → v ≡ (f && wrongWork s (p .c1) (p .goal) (p .taken))
+  asked-of : (f v : Bool) → f ≡ true → wrongWork s (p .c1) (goalOf p) (p .taken) ≡ v → v ≡ (f && wrongWork s (p .c1) (goalOf p) (p .taken))
   asked-of true v q e = sym e
   asked-of false v q e = never (cc)
 
   pub write-off : p .on ≡ false → false ≡ wrongWrite s p
   write-off q = go (p .on) q
     where
-      go : (f : Bool) → f ≡ false → false ≡ (f && wrongWork s (p .c1) (p .goal) (p .taken))
+      go : (f : Bool) → f ≡ false → false ≡ (f && wrongWork s (p .c1) (goalOf p) (p .taken))
       go true q = never (cc)
       go false q = refl
 
-  pub write-full : p .on ≡ true → wholeOf (p .goal) ≤ p .taken → true ≡ wrongWrite s p
-  write-full q h = asked-of (p .on) true q (work-full s (p .c1) (p .goal) (p .taken) h)
+  pub write-full : p .on ≡ true → wholeOf (goalOf p) ≤ p .taken → true ≡ wrongWrite s p
+  write-full q h = asked-of (p .on) true q (work-full s (p .c1) (goalOf p) (p .taken) h)
 
-  pub write-drive : p .on ≡ true → p .taken < wholeOf (p .goal) → fitted (p .c1) ≡ false → true ≡ wrongWrite s p
-  write-drive q h e = asked-of (p .on) true q (work-drive s (p .c1) (p .goal) (p .taken) h e)
+  pub write-drive : p .on ≡ true → p .taken < wholeOf (goalOf p) → fitted (p .c1) ≡ false → true ≡ wrongWrite s p
+  write-drive q h e = asked-of (p .on) true q (work-drive s (p .c1) (goalOf p) (p .taken) h e)
 
-  pub write-rest : p .on ≡ true → p .taken < wholeOf (p .goal) → fitted (p .c1) ≡ true → unknownTo (s .machine) (p .goal) ≡ wrongWrite s p
-  write-rest q h e = asked-of (p .on) (unknownTo (s .machine) (p .goal)) q (work-rest s (p .c1) (p .goal) (p .taken) h e)
+  pub write-rest : p .on ≡ true → p .taken < wholeOf (goalOf p) → fitted (p .c1) ≡ true → unknownTo (s .machine) (goalOf p) ≡ wrongWrite s p
+  write-rest q h e = asked-of (p .on) (unknownTo (s .machine) (goalOf p)) q (work-rest s (p .c1) (goalOf p) (p .taken) h e)
 
 -- a write in progress that refusal 1 does not name
 module _ (s : Setting) (p : Pending) (e : wrongWrite s p ≡ false) where
-  right-of : (f : Bool) → f ≡ true → (f && wrongWork s (p .c1) (p .goal) (p .taken)) ≡ false → wrongWork s (p .c1) (p .goal) (p .taken) ≡ false
+  right-of : (f : Bool) → f ≡ true → (f && wrongWork s (p .c1) (goalOf p) (p .taken)) ≡ false → wrongWork s (p .c1) (goalOf p) (p .taken) ≡ false
   right-of true q h = h
   right-of false q h = never (cc)
 
-  pub write-right : p .on ≡ true → wrongWork s (p .c1) (p .goal) (p .taken) ≡ false
+  pub write-right : p .on ≡ true → wrongWork s (p .c1) (goalOf p) (p .taken) ≡ false
   write-right q = right-of (p .on) q e
 
-  pub taken-few : p .on ≡ true → p .taken < wholeOf (p .goal)
-  taken-few q = work-below s (p .c1) (p .goal) (p .taken) (write-right q)
+  pub taken-few : p .on ≡ true → p .taken < wholeOf (goalOf p)
+  taken-few q = work-below s (p .c1) (goalOf p) (p .taken) (write-right q)
 
   pub fitted-few : p .on ≡ true → fitted (p .c1) ≡ true
-  fitted-few q = work-fitted s (p .c1) (p .goal) (p .taken) (write-right q)
+  fitted-few q = work-fitted s (p .c1) (goalOf p) (p .taken) (write-right q)

@@ -11,7 +11,7 @@ use Rattle.registers.specs.declared.regs.Goal.the-variants.{IntoSector, 
 use Rattle.registers.specs.declared.regs.Setting.{Setting}
 use Rattle.registers.specs.Boxes.{Change, Clear, MoveTo, Turn, Start, Finish}
 use Rattle.registers.specs.Boxes.{Response, Stay, Reply, ReplyIfNone, Seeking, Interrupt, Serve}
-use Rattle.registers.specs.View.{wrongWork, wrongWrite}
+use Rattle.registers.specs.View.{goalOf, wrongWork, wrongWrite}
 
 -- numbers that refusal 1 does not name
 pub record Possible (r : Regs) : Type 0 where
@@ -56,7 +56,7 @@ pub record Lawful (r : Regs) (room : ℕ) : Type 0 where
   pub reply : Replying (r .reply) (r .place) (r .fill)
   pub unread : Unread (r .from) (r .until) (r .lost) room
   pub write : wrongWrite (r .setting) (r .write) ≡ false
-  pub small : Small (r .index) (r .write .taken) (r .write .goal)
+  pub small : Small (r .index) (r .write .taken) (goalOf (r .write))
 
 -- ---- What changes and responses must be
 

@@ -9,7 +9,9 @@ use Rattle.fields.specs.declared.refusal.Refusal.{Refusal}
 use Rattle.registers.specs.declared.regs.Regs.{Regs}
 use Rattle.registers.specs.declared.regs.Drive.{Drive}
 use Rattle.registers.specs.declared.regs.Pending.{Pending}
-use Rattle.registers.specs.declared.regs.Goal.the-variants.{IntoSector}
+use Rattle.registers.specs.declared.regs.Goal.{Goal}
+use Rattle.registers.specs.declared.regs.Goal.the-variants.{IntoSector, IntoTrack}
+use Rattle.registers.specs.declared.regs.Target.{Target}
 use Rattle.registers.specs.declared.regs.Report.{Report}
 use Rattle.registers.specs.declared.regs.Receipt.{Receipt}
 use Rattle.registers.specs.declared.regs.Receipt.the-variants as receipt
@@ -173,11 +175,11 @@ sought s r = regsWithDrive (record { cylinder = r .drive .cylinder; seek = s; di
 
 -- no write in progress, all numbers 0
 abbrev pub noPending : Pending
-noPending = record { on = false; c1 = 0; goal = IntoSector (record { c = 0; h = 0; r = 0; n = 0 }); taken = 0 }
+noPending = record { on = false; c1 = 0; track = false; target = record { one = 0; two = 0; three = 0; four = 0 }; taken = 0 }
 
 -- a write that is in progress or not, with so many bytes held
 abbrev pub pendingWith : Bool → ℕ → Pending → Pending
-pendingWith on n p = record { on = on; c1 = p .c1; goal = p .goal; taken = n }
+pendingWith on n p = record { on = on; c1 = p .c1; track = p .track; target = p .target; taken = n }
 
 abbrev pub regsTaken : Taking → Regs → Regs
 regsTaken (Add b) r = regsWithCommand (set (r .command) (r .count) b) (r .count + 1) r
@@ -189,12 +191,21 @@ heldTaken (Hold b) r h = set h (r .write .taken) b
 
 -- ---- Changes and responses
 
+-- whether it is a Format's that is written, and its four numbers
+abbrev pub trackIn : Goal → Bool
+trackIn (IntoSector id) = false
+trackIn (IntoTrack x) = true
+
+abbrev pub targetIn : Goal → Target
+targetIn (IntoSector id) = record { one = id .c; two = id .h; three = id .r; four = id .n }
+targetIn (IntoTrack x) = record { one = x .size; two = x .sectors; three = x .gap; four = x .filler }
+
 -- a command that is done with leaves its bytes, a write all but its fill
 abbrev pub regsChanged : Change → Regs → Regs
 regsChanged Clear r = regsWithCommand (r .command) 0 r
 regsChanged (MoveTo c) r = regsWithDrive (record { cylinder = c; seek = r .drive .seek; disk = r .drive .disk }) r
 regsChanged Turn r = regsWithIndex ((r .index + 1) % 65536) r
-regsChanged (Start c1 goal) r = regsWithWrite (record { on = true; c1 = c1; goal = goal; taken = 0 }) r
+regsChanged (Start c1 goal) r = regsWithWrite (record { on = true; c1 = c1; track = trackIn goal; target = targetIn goal; taken = 0 }) r
 regsChanged Finish r = regsWithWrite (pendingWith false 0 (r .write)) r
 
 unfoldable pub regsAll : List Change → Regs → Regs

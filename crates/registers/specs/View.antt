@@ -13,6 +13,7 @@ use Rattle.store.specs.Store.{roomOf, diskOf, transferRoom}
 use Rattle.registers.specs.declared.regs.Regs.{Regs}
 use Rattle.registers.specs.declared.regs.Pending.{Pending}
 use Rattle.registers.specs.declared.regs.Setting.{Setting}
+use Rattle.registers.specs.declared.regs.Target.{Target}
 use Rattle.registers.specs.declared.regs.Goal.{Goal}
 use Rattle.registers.specs.declared.regs.Goal.the-variants.{IntoSector, IntoTrack}
 use Rattle.registers.specs.declared.regs.Machine.{Machine}
@@ -55,9 +56,17 @@ namedIn c1 r t b = named c1 (drivesOf r t b)
 abbrev pub namedAs : Bool → Drive → Slot → Named
 namedAs f d slot = record { fitted = f; cylinder = d .cylinder; slot = slot }
 
+-- what is written: of a track, if the flag says so, and which
+abbrev pub goalIf : Bool → Target → Goal
+goalIf true t = IntoTrack (record { size = t .one; sectors = t .two; gap = t .three; filler = t .four })
+goalIf false t = IntoSector (record { c = t .one; h = t .two; r = t .three; n = t .four })
+
+abbrev pub goalOf : Pending → Goal
+goalOf p = goalIf (p .track) (p .target)
+
 -- a write, and the one that is in progress, if the flag says that one is
 abbrev pub writingOf : Pending → List ℕ → Writing
-writingOf p held = record { c1 = p .c1; goal = p .goal; held = held }
+writingOf p held = record { c1 = p .c1; goal = goalOf p; held = held }
 
 abbrev pub writingIf : Bool → Pending → List ℕ → Option Writing
 writingIf true p h = some (writingOf p (take (p .taken) h))
@@ -111,7 +120,7 @@ unfoldable pub wrongWork : Setting → ℕ → Goal → ℕ → Bool
 wrongWork x c1 goal taken = leb (wholeOf goal) taken || (not (fitted c1) || unknownTo (x .machine) goal)
 
 abbrev pub wrongWrite : Setting → Pending → Bool
-wrongWrite x p = p .on && wrongWork x (p .c1) (p .goal) (p .taken)
+wrongWrite x p = p .on && wrongWork x (p .c1) (goalOf p) (p .taken)
 
 -- controller numbers are impossible: read place past fill, reply over 7 bytes, command not shorter than its length, lost count over 2, or the write
 unfoldable pub impossible : Regs → Bool

@@ -16,6 +16,7 @@ pub use regs::Seek;
 pub use regs::Setting;
 pub use regs::Shape;
 pub use regs::Switched;
+pub use regs::Target;
 pub use regs::Told;
 pub use regs::Written;
 pub use regs::fitted;

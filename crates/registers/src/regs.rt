@@ -14,8 +14,8 @@ ghost use lib.Dec.{leb};
 ghost use Rattle.fields.specs.Capacities.{mostHeld};
 ghost use Rattle.codes.specs.Table.{commandOf, bytesFor};
 ghost use Rattle.registers.specs.Boxes.{wholeOf, silent, serves, fitted, seven, Add, Hold, Clear, Turn, Start, Finish, MoveTo};
-ghost use Rattle.registers.specs.View.{isRust, unknownTo, impossible, wrongWrite};
-ghost use Rattle.registers.specs.Settle.{accepted, declined, driveNamed, replied, regsWithDrive, noPending, pendingWith, regsTaken, regsChanged, kept};
+ghost use Rattle.registers.specs.View.{goalOf, isRust, unknownTo, impossible, wrongWrite};
+ghost use Rattle.registers.specs.Settle.{accepted, declined, driveNamed, replied, regsWithDrive, noPending, trackIn, targetIn, pendingWith, regsTaken, regsChanged, kept};
 
 // The state of the last seek.
 pub enum Seek {
@@ -56,11 +56,20 @@ pub enum Goal {
     IntoTrack(Shape),
 }
 
-// A write in progress: the command's second byte, what is written, and how many bytes are held.
+// Four numbers: c, h, r, n of an ID, or size, sectors, gap, filler of a shape.
+pub struct Target {
+    pub one: u8,
+    pub two: u8,
+    pub three: u8,
+    pub four: u8,
+}
+
+// A write in progress: the command's second byte, what is written (of a track or not, and which), and how many bytes are held.
 pub struct Pending {
     pub on: bool,
     pub c1: u8,
-    pub goal: Goal,
+    pub track: bool,
+    pub target: Target,
     pub taken: u16,
 }
 
@@ -159,6 +168,35 @@ impl Goal {
         }
     }
 
+    // Whether it is a Format's, and its four numbers.
+    fn is_track(self) -> bool
+        ensures { λ r. ⌜ r ≡ trackIn self ⌝ }
+    {
+        match self {
+            Goal::IntoSector(_) => false,
+            Goal::IntoTrack(_) => true,
+        }
+    }
+
+    fn target(self) -> Target
+        ensures { λ r. ⌜ r ≡ targetIn self ⌝ }
+    {
+        match self {
+            Goal::IntoSector(id) => Target {
+                one: id.c,
+                two: id.h,
+                three: id.r,
+                four: id.n,
+            },
+            Goal::IntoTrack(shape) => Target {
+                one: shape.size,
+                two: shape.sectors,
+                three: shape.gap,
+                four: shape.filler,
+            },
+        }
+    }
+
     // Whether a machine has no such write: the Rust's has no Format in progress.
     fn unknown_to(self, setting: Setting) -> bool
         ensures { λ r. ⌜ r ≡ unknownTo (setting .machine) self ⌝ }
@@ -175,29 +213,54 @@ impl Pending {
     pub fn none() -> Pending
         ensures { λ r. ⌜ r ≡ noPending ⌝ }
     {
-        let id = SectorId {
-            c: 0,
-            h: 0,
-            r: 0,
-            n: 0,
+        let target = Target {
+            one: 0,
+            two: 0,
+            three: 0,
+            four: 0,
         };
         Pending {
             on: false,
             c1: 0,
-            goal: Goal::IntoSector(id),
+            track: false,
+            target,
             taken: 0,
         }
+    }
+
+    // What is written.
+    pub fn goal(self) -> Goal
+        ensures { λ r. ⌜ r ≡ goalOf self ⌝ }
+    {
+        let t = self.target;
+        if self.track {
+            let shape = Shape {
+                size: t.one,
+                sectors: t.two,
+                gap: t.three,
+                filler: t.four,
+            };
+            return Goal::IntoTrack(shape);
+        }
+        let id = SectorId {
+            c: t.one,
+            h: t.two,
+            r: t.three,
+            n: t.four,
+        };
+        Goal::IntoSector(id)
     }
 
     // In progress or not, with so many bytes held.
     fn with(self, on: bool, taken: u16) -> Self
         ensures { λ r. ⌜ r ≡ pendingWith on taken self ⌝ }
     {
-        let goal = self.goal;
+        let target = self.target;
         Pending {
             on,
             c1: self.c1,
-            goal,
+            track: self.track,
+            target,
             taken,
         }
     }
@@ -223,7 +286,7 @@ impl Regs {
         if !p.on {
             return false;
         }
-        let goal = p.goal;
+        let goal = p.goal();
         if goal.whole() <= p.taken as usize {
             return true;
         }
@@ -355,7 +418,8 @@ impl Regs {
         let write = Pending {
             on: true,
             c1,
-            goal,
+            track: goal.is_track(),
+            target: goal.target(),
             taken: 0,
         };
         self.write = write;

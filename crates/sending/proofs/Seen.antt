@@ -41,12 +41,12 @@ use Rattle.registers.specs.Boxes.{withCommand, withWrite, withSlot, holdingIn}
 use Rattle.registers.specs.Boxes.{Taking, Add, Hold, Change, Clear, MoveTo, Turn, Start, Finish, Response, Stay, Reply, ReplyIfNone, Seeking, Interrupt, Serve, Effect, Sent}
 use Rattle.registers.specs.Boxes.{taken, changed, allChanged, putIn, withReply, ifNone, interrupted, responded}
 use Rattle.codes.specs.Table.{commandOf, bytesFor}
-use Rattle.registers.specs.View.{roomsOf, slotIf, slotOf, drivesOf, namedIn, writingOf, writingIf, insideOf, frontOf, worldOf, impossible, impossibleIn}
+use Rattle.registers.specs.View.{roomsOf, slotIf, slotOf, drivesOf, namedIn, goalOf, writingOf, writingIf, insideOf, frontOf, worldOf, impossible, impossibleIn}
 use Rattle.registers.specs.declared.regs.Flag.the-variants as flag
 use Rattle.registers.specs.Calls.{diskIn}
 use Rattle.registers.specs.Settle.{declined, replied, pendingWith, regsTaken, heldTaken, regsChanged, regsAll, ifUnread, interruptedBy, regsResponded, regsOf}
 use Rattle.registers.specs.Possible.{Few}
-use Rattle.registers.proofs.Numbers.{possible, possible-in, count-few, whole-most, taken-few}
+use Rattle.registers.proofs.Numbers.{possible, possible-in, count-few, goal-kept, whole-most, taken-few}
 use Rattle.codes.specs.Second.{headOf}
 use Rattle.commands.specs.Commands.{byte, idOf, ready, whenReady, does, puts, seekTo, invalid, readData, writeData, readId, writeReply, saveAt, writtenSector}
 use Rattle.commands.specs.Commands.{trackAs, formatReply, laysTrack, formatAtOnce, hasPhase, formatIf, formatTrack, writtenTrack, writtenInto, written, obeyed}
@@ -82,7 +82,7 @@ unfolding insideOf changed
 seen-change Clear r h s = refl
 seen-change (MoveTo c) r h s = refl
 seen-change Turn r h s = refl
-seen-change (Start c1 g) r h s = refl
+seen-change (Start c1 g) r h s = ap (λ (x : Goal). withWrite (some record { c1 = c1; goal = x; held = [] }) (insideOf r h s)) (goal-kept g)
 seen-change Finish r h s = refl
 
 seen-changes : (xs : List Change) (r : Regs) (h : List ℕ) (s : Slot) → insideOf (regsAll xs r) h s ≡ allChanged xs (insideOf r h s)
@@ -319,7 +319,7 @@ unfolding dataByte
 data-takes s b w d = sends-takes (Hold b) (dataIf (eqb (length (w .held)) (wholeOf (w .goal))) s w d)
 
 module _ (r : Regs) (b : ℕ) (h t d x : List ℕ) (ok : impossibleIn x r ≡ false) (nine : length (r .command) ≡ 9) (seven : length (r .reply) ≡ 7) (held : length h ≡ mostHeld)
-    (fits : Few (r .write .goal)) where
+    (fits : Few (goalOf (r .write))) where
   seen-byte : (e : Result Sent) (k : Taking) → Fits k r h → Takes k e → LaysS r t d e → Sees r h t d x (leftOf e r h t d x) (reported e) (after e (λ s. good (done (worldOf r h t d x) s)))
   unfolding leftOf regsOf done insideOf
   seen-byte (refused why) k g q l = refl
@@ -345,7 +345,7 @@ module _ (r : Regs) (b : ℕ) (h t d x : List ℕ) (ok : impossibleIn x r ≡ fa
   seen-sent : (f : Bool) → r .write .on ≡ f → Sees r h t d x (leftOf (sent (roomsOf d x) (insideOf r h (slotOf r t d)) b) r h t d x) (reportOf (roomsOf d x) (worldOf r h t d x) b) (writePort (roomsOf d x) (worldOf r h t d x) b)
   unfolding writePort reportOf
   seen-sent true e =
-      let g : r .write .taken < length h = omega (arith, taken-few (r .setting) (r .write) (possible r (possible-in x r ok) .write-in) e, whole-most (r .write .goal) fits) in
+      let g : r .write .taken < length h = omega (arith, taken-few (r .setting) (r .write) (possible r (possible-in x r ok) .write-in) e, whole-most (goalOf (r .write)) fits) in
       seen-byte (sent (roomsOf d x) (insideOf r h (slotOf r t d)) b) (Hold b) g (subst (Takes (Hold b)) (sent-data r b h t d x e) (data-takes _ b _ _)) (sent-lays r t d x h b)
   seen-sent false e =
       let g : r .count < length (r .command) = omega (arith, count-few r (possible-in x r ok)) in

@@ -27,7 +27,7 @@ use Rattle.registers.specs.Boxes.{silent, Rooms, Drives, Named, named, wholeOf,
 use Rattle.codes.specs.Table.{commandOf, bytesFor}
 use Rattle.commands.specs.Commands.{byte, ready, formatAtOnce, hasPhase, formatIf, formatTrack, obeyed}
 use Rattle.sending.specs.Machine.{sends, clearing, commandIf, commandByte, dataIf, dataByte, byteFor, sent}
-use Rattle.registers.specs.View.{roomsOf, slotOf, drivesOf, namedIn, writingOf, writingIf, insideOf, impossibleIn}
+use Rattle.registers.specs.View.{roomsOf, slotOf, drivesOf, namedIn, goalOf, writingOf, writingIf, insideOf, impossibleIn}
 use Rattle.registers.specs.Settle.{accepted, declined, regsTaken, regsChanged, regsAll, regsResponded, regsOf, keptIf, kept}
 use Rattle.commands.specs.Lent.{tableWith, dataWith, tableAfter, dataAfter, Stores, Ran, ran, ranOf, intoHere, writtenHere, ranHere, Left, left, leftOf}
 use Rattle.sending.specs.Calls.{commandHere, dataHere, impossibleWith, sentTo, dataWrite}
@@ -150,11 +150,11 @@ module _ (r : Regs) (b : ℕ) (h t d x : List ℕ) (room : r .write .taken < len
   whole-is : take (r .write .taken + 1) Held ≡ Whole
   whole-is = rw add-one (take-suc-set h (r .write .taken) b room)
 
-  pub data-part : (n : ℕ) (a : Written) → n ≡ wholeOf (r .write .goal) → (r .write .taken + 1 ≡ n → ⊥) → a ≡ accepted silent (regsTaken (Hold b) r)
+  pub data-part : (n : ℕ) (a : Written) → n ≡ wholeOf (goalOf (r .write)) → (r .write .taken + 1 ≡ n → ⊥) → a ≡ accepted silent (regsTaken (Hold b) r)
       → left a Held t d x ≡ leftOf (dataHere r b h t d x) r h t d x
   unfolding dataByte dataIf leftOf regsOf regsAll regsResponded
   data-part n a en ne ea =
-      let e : eqb (length Whole) (wholeOf (r .write .goal)) ≡ false = ne-eqb _ _ (λ q. ne (sym whole-length ∙ q ∙ sym en)) in
+      let e : eqb (length Whole) (wholeOf (goalOf (r .write))) ≡ false = ne-eqb _ _ (λ q. ne (sym whole-length ∙ q ∙ sym en)) in
       rw (e, ea)
 
   -- the end of a write, and where it is refused the held byte that was there
@@ -170,7 +170,7 @@ module _ (r : Regs) (b : ℕ) (h t d x : List ℕ) (room : r .write .taken < len
   back-is (good e) q =
       ap (λ (y : List ℕ). left (regsOf (good e) (regsTaken (Hold b) r)) Held (tableWith (e .put) t) (dataWith (e .put) d) y) (still-response (e .response) x q)
 
-  module _ (n : ℕ) (a : Written) (t′ d′ : List ℕ) (en : n ≡ wholeOf (r .write .goal)) (eq : r .write .taken + 1 ≡ n) where
+  module _ (n : ℕ) (a : Written) (t′ d′ : List ℕ) (en : n ≡ wholeOf (goalOf (r .write))) (eq : r .write .taken + 1 ≡ n) where
     -- what the end of a write promises of some registers
     abbrev Ended : List ℕ → Regs → Type 0
     Ended l y = Stores (writtenHere l y t d x) y t d a t′ d′
@@ -179,12 +179,12 @@ module _ (r : Regs) (b : ℕ) (h t d x : List ℕ) (room : r .write .taken < len
         → left (kept r a) (heldBack (a .receipt)) t′ d′ x ≡ leftOf (dataHere r b h t d x) r h t d x
     unfolding dataByte dataIf
     data-end l el p =
-        let f : eqb (length Whole) (wholeOf (r .write .goal)) ≡ true = eq-eqb _ _ (whole-length ∙ eq ∙ en) in
+        let f : eqb (length Whole) (wholeOf (goalOf (r .write))) ≡ true = eq-eqb _ _ (whole-length ∙ eq ∙ en) in
         let q = subst (λ (z : List ℕ). Ended z (regsTaken (Hold b) r)) el p in
         let e : Result Effect = writtenHere Whole r t d x in
         rw f
         ((λ i. left (kept r (q .0 i)) (heldBack (q .0 i .receipt)) (q .1 .0 i) (q .1 .1 i) x)
-        ∙ back-is e (still-written (r .write .goal) (roomsOf d x) (r .write .c1) Whole (namedIn (r .write .c1) r t d)))
+        ∙ back-is e (still-written (goalOf (r .write)) (roomsOf d x) (r .write .c1) Whole (namedIn (r .write .c1) r t d)))
 
     module _ (taken : Regs) (l : List ℕ) (et : taken ≡ regsTaken (Hold b) r) (el : l ≡ take (r .write .taken + 1) Held) where
       pub data-good : (told : Report) → a .receipt ≡ receipt.Good told → Ended l taken → left a Held t′ d′ x ≡ leftOf (dataHere r b h t d x) r h t d x
@@ -201,7 +201,7 @@ module _ (r : Regs) (b : ℕ) (h t d x : List ℕ) (room : r .write .taken < len
 
 -- ---- the end of a write, by what is written
 
-pub ended-into : (r : Regs) (held t d x : List ℕ) (g : Goal) → r .write .goal ≡ g → (a : Written) (t′ d′ : List ℕ)
+pub ended-into : (r : Regs) (held t d x : List ℕ) (g : Goal) → goalOf (r .write) ≡ g → (a : Written) (t′ d′ : List ℕ)
     → Stores (intoHere g held r t d x) r t d a t′ d′ → Stores (writtenHere held r t d x) r t d a t′ d′
 ended-into r held t d x g e a t′ d′ p = subst (λ (y : Goal). Stores (intoHere y held r t d x) r t d a t′ d′) (sym e) p
 

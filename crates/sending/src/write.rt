@@ -21,6 +21,7 @@ ghost use lib.ListN.{length};
 ghost use Rattle.fields.specs.Capacities.{mostHeld};
 ghost use Rattle.registers.specs.declared.regs.Goal.the-variants.{IntoSector};
 ghost use Rattle.registers.specs.Boxes.{wholeOf};
+ghost use Rattle.registers.specs.View.{goalOf};
 ghost use Rattle.commands.specs.Lent.{Stores, intoHere, writtenHere, left, leftOf};
 ghost use Rattle.sending.specs.Calls.{commandHere, dataHere, dataWrite};
 
@@ -57,8 +58,7 @@ fn finish_write(regs: Regs, held: &[u8], table: &mut [u8], bytes: &mut [u8]) -> 
         regs (now (table .entry)) (now (bytes .entry)) r (now (table .exit)) (now (bytes .exit))) ⌝ }
 {
     let p = regs.write;
-    let goal = p.goal;
-    match goal {
+    match p.goal() {
         Goal::IntoSector(id) => finish_sector(regs, id, held, table, bytes),
         Goal::IntoTrack(shape) => finish_format(regs, shape, held, table, bytes),
     }
@@ -66,13 +66,13 @@ fn finish_write(regs: Regs, held: &[u8], table: &mut [u8], bytes: &mut [u8]) -> 
 
 // A byte of a write in progress: the last one has it saved.
 fn data_byte(regs: Regs, b: u8, held: &mut [u8], table: &mut [u8], bytes: &mut [u8]) -> Written
-    requires { ⌜ (length (now held) ≡ mostHeld) × (regs .write .taken < wholeOf (regs .write .goal)) ⌝ }
+    requires { ⌜ (length (now held) ≡ mostHeld) × (regs .write .taken < wholeOf (goalOf (regs .write))) ⌝ }
     ensures { λ r. ⌜ ((x : List ℕ) → left r (now (held .exit)) (now (table .exit)) (now (bytes .exit)) x
         ≡ leftOf (dataHere regs b (now (held .entry)) (now (table .entry)) (now (bytes .entry)) x)
         regs (now (held .entry)) (now (table .entry)) (now (bytes .entry)) x) ⌝ }
 {
     let p = regs.write;
-    let goal = p.goal;
+    let goal = p.goal();
     let whole = goal.whole();
     let at = p.taken as usize;
     let was = held[at];

@@ -1,9 +1,10 @@
-use mathlib.Core.Path.{refl, ap, _∙_}
+use mathlib.Core.Path.{_≡_, refl, ap, _∙_}
 use Prim.Native.Nat.{_<_}
 use native.Mathlib.Omega.{arith}
 use lib.ListN.{length}
 use Rattle.fields.specs.Capacities.{mostHeld}
-use Rattle.registers.specs.Boxes.{silent}
+use Rattle.registers.specs.Boxes.{wholeOf, silent}
+use Rattle.registers.specs.View.{goalOf}
 use Rattle.registers.specs.Settle.{accepted}
 use Rattle.sending.proofs.Sends.{set-room, set-count, set-few, set-in, data-part, data-good, data-refused}
 use borrow.Author.Needs.{needs}
@@ -11,14 +12,21 @@ use Rattle.sending.proofs.write.data_byte.Statement.{statement}
 use Rattle.sending.proofs.write.data_byte.Tie as tie
 
 abbrev entry : tie.After-whole → tie.Start
-entry w = w .before .before .before .before .before
+entry w = w .before .before .before .before .before .before
+
+-- how many bytes are written
+whole-is : (w : tie.After-whole) → w .whole .result ≡ wholeOf (goalOf (entry w .args .regs .write))
+whole-is w = w .whole .ensures .0 ∙ ap wholeOf (w .before .goal .ensures)
 
 -- no more is written than can be held, so the place is inside
 small : (w : tie.After-whole) → entry w .args .regs .write .taken < mostHeld
-small w = omega (arith, w .whole .ensures .0, w .whole .ensures .1, entry w .pre .1)
+small w = omega (arith, whole-is w, w .whole .ensures .1, entry w .pre .1)
 
 room : (w : tie.After-whole) → entry w .args .regs .write .taken < length (entry w .args .held .now)
 room w = omega (arith, small w, entry w .pre .0)
+
+goal-requires : tie.Need-goal-requires
+goal-requires c κs = search needs
 
 whole-requires : tie.Need-whole-requires
 whole-requires c κs = search needs
@@ -27,13 +35,13 @@ cast-at : tie.Need-cast-at
 cast-at c = search needs
 
 slice-read-was : tie.Need-slice-read-was
-slice-read-was c = search needs
+slice-read-was c = room (c .before .before)
 
 slice-write-held : tie.Need-slice-write-held
-slice-write-held c = search needs
+slice-write-held c = room (c .before .before)
 
 holds-requires : tie.Need-holds-requires
-holds-requires c κs = search needs
+holds-requires c κs = small (c .before .before)
 
 add-end : tie.Need-add-end
 add-end c = search needs
@@ -48,7 +56,7 @@ returns : tie.Need-returns
 returns c =
     let w = c .before .before .before .before .before in
     let args = entry w .args in
-    λ x. data-part (args .regs) (args .b) (args .held .now) (args .table .now) (args .bytes .now) x (room w) (w .whole .result) _ (w .whole .ensures .0)
+    λ x. data-part (args .regs) (args .b) (args .held .now) (args .table .now) (args .bytes .now) x (room w) (w .whole .result) _ (whole-is w)
     (c .before .if1 .taken) (c .done .ensures ∙ ap (accepted silent) (c .before .before .holds .ensures))
 
 slice-reshare-prefix-finish-write : tie.Need-slice-reshare-prefix-finish-write
@@ -100,7 +108,7 @@ returns-2 c =
     let holds = c .before .before .before .before .before .before .before .before .before .before .before .holds in
     let finish-write = c .before .before .before .before .before .before .finish-write in
     λ x. data-good (args .regs) (args .b) (args .held .now) (args .table .now) (args .bytes .now) x (room w) (w .whole .result) (finish-write .result) _ _
-    (w .whole .ensures .0) (c .before .before .before .before .before .before .before .before .before .before .if1 .left) (holds .result) _ (holds .ensures) refl _ (c .enum-told .given .1) (finish-write .ensures x)
+    (whole-is w) (c .before .before .before .before .before .before .before .before .before .before .if1 .left) (holds .result) _ (holds .ensures) refl _ (c .enum-told .given .1) (finish-write .ensures x)
 
 same-length-5 : tie.Need-same-length-5
 same-length-5 c = search needs
@@ -118,12 +126,13 @@ returns-3 c =
     let holds = c .before .before .before .before .before .before .before .before .before .before .before .before .before .holds in
     let finish-write = c .before .before .before .before .before .before .before .before .finish-write in
     λ x. data-refused (args .regs) (args .b) (args .held .now) (args .table .now) (args .bytes .now) x (room w) (w .whole .result) (finish-write .result) _ _
-    (w .whole .ensures .0) (c .before .before .before .before .before .before .before .before .before .before .before .before .if1 .left) (holds .result) _ (holds .ensures) refl _ _ (c .before .before .receipt .given .1) (c .refused .ensures) (finish-write .ensures x)
+    (whole-is w) (c .before .before .before .before .before .before .before .before .before .before .before .before .if1 .left) (holds .result) _ (holds .ensures) refl _ _ (c .before .before .receipt .given .1) (c .refused .ensures) (finish-write .ensures x)
 
 pub data-byte-spec : {M : Type 1} → statement M
 data-byte-spec =
     tie.close
     (tie.spec
+    goal-requires
     whole-requires
     cast-at
     slice-read-was

@@ -1,8 +1,9 @@
-use mathlib.Core.Path.{sym, _∙_}
+use mathlib.Core.Path.{sym, ap, _∙_}
 use Prim.Native.Nat.{_≤_, _<_}
 use native.Mathlib.Omega.{arith}
 use borrow.Author.Tests.{not-true, not-false}
 use Rattle.registers.specs.Boxes.{wholeOf}
+use Rattle.registers.specs.View.{goalOf, unknownTo}
 use Rattle.registers.proofs.Numbers.{write-off, write-full, write-drive, write-rest}
 use borrow.Author.Needs.{needs}
 use Rattle.registers.proofs.regs.Regs.wrong_write.Statement.{statement}
@@ -10,6 +11,9 @@ use Rattle.registers.proofs.regs.Regs.wrong_write.Tie as tie
 
 returns : tie.Need-returns
 returns c = write-off (c .before .before .before .args .self .setting) (c .before .before .before .args .self .write) (not-true _ (c .if1 .taken))
+
+goal-requires : tie.Need-goal-requires
+goal-requires c κs = search needs
 
 whole-requires : tie.Need-whole-requires
 whole-requires c κs = search needs
@@ -19,34 +23,38 @@ cast-if2 c = search needs
 
 returns-2 : tie.Need-returns-2
 returns-2 c =
-    let self = c .before .before .before .before .before .before .args .self in
-    let full : wholeOf (self .write .goal) ≤ self .write .taken = omega (arith, c .before .before .whole .ensures .0, c .if2 .taken) in
-    write-full (self .setting) (self .write) (not-false _ (c .before .before .before .if1 .left)) full
+    let self = c .before .before .before .before .before .before .before .args .self in
+    let full : wholeOf (goalOf (self .write)) ≤ self .write .taken = omega (arith, c .before .before .whole .ensures .0 ∙ ap wholeOf (c .before .before .before .goal .ensures), c .if2 .taken) in
+    write-full (self .setting) (self .write) (not-false _ (c .before .before .before .before .if1 .left)) full
 
 fitted-requires : tie.Need-fitted-requires
 fitted-requires c κs = search needs
 
 returns-3 : tie.Need-returns-3
 returns-3 c =
-    let self = c .before .before .before .before .before .before .before .before .args .self in
-    let below : self .write .taken < wholeOf (self .write .goal) = omega (arith, c .before .before .before .before .whole .ensures .0, c .before .before .if2 .left) in
-    write-drive (self .setting) (self .write) (not-false _ (c .before .before .before .before .before .if1 .left)) below (sym (c .before .fitted .ensures) ∙ not-true _ (c .if3 .taken))
+    let self = c .before .before .before .before .before .before .before .before .before .args .self in
+    let below : self .write .taken < wholeOf (goalOf (self .write)) =
+    omega (arith, c .before .before .before .before .whole .ensures .0 ∙ ap wholeOf (c .before .before .before .before .before .goal .ensures), c .before .before .if2 .left) in
+    write-drive (self .setting) (self .write) (not-false _ (c .before .before .before .before .before .before .if1 .left)) below (sym (c .before .fitted .ensures) ∙ not-true _ (c .if3 .taken))
 
 unknown-to-requires : tie.Need-unknown-to-requires
 unknown-to-requires c κs = search needs
 
 returns-4 : tie.Need-returns-4
 returns-4 c =
-    let self = c .before .before .before .before .before .before .before .before .before .before .args .self in
-    let below : self .write .taken < wholeOf (self .write .goal) = omega (arith, c .before .before .before .before .before .before .whole .ensures .0, c .before .before .before .before .if2 .left) in
+    let self = c .before .before .before .before .before .before .before .before .before .before .before .args .self in
+    let below : self .write .taken < wholeOf (goalOf (self .write)) =
+    omega (arith, c .before .before .before .before .before .before .whole .ensures .0 ∙ ap wholeOf (c .before .before .before .before .before .before .before .goal .ensures), c .before .before .before .before .if2 .left) in
     let fits = sym (c .before .before .before .fitted .ensures) ∙ not-false _ (c .before .before .if3 .left) in
-    c .unknown-to .ensures ∙ write-rest (self .setting) (self .write) (not-false _ (c .before .before .before .before .before .before .before .if1 .left)) below fits
+    c .unknown-to .ensures ∙ ap (unknownTo (self .setting .machine)) (c .before .before .before .before .before .before .before .goal .ensures)
+    ∙ write-rest (self .setting) (self .write) (not-false _ (c .before .before .before .before .before .before .before .before .if1 .left)) below fits
 
 pub wrong-write-spec : {M : Type 1} → statement M
 wrong-write-spec =
     tie.close
     (tie.spec
     returns
+    goal-requires
     whole-requires
     cast-if2
     returns-2
