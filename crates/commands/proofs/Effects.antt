@@ -39,7 +39,7 @@ use Rattle.registers.specs.declared.regs.Drive.{Drive}
 use Rattle.registers.specs.declared.regs.Report.{Report}
 use Rattle.registers.specs.declared.regs.Shape.{Shape}
 use Rattle.registers.specs.declared.regs.Written.{Written}
-use Rattle.registers.specs.Boxes.{Empty, Holds, fitted, Named, seven, silent, serves, Change, Turn, Start, Finish, Effect}
+use Rattle.registers.specs.Boxes.{settingOf, Empty, Holds, fitted, Named, seven, silent, serves, Change, Turn, Start, Finish, Effect}
 use Rattle.registers.specs.Boxes.{Stay, Reply, ReplyIfNone, Serve}
 use Rattle.registers.specs.View.{slotIf, roomsOf, namedIn, namedAs}
 use Rattle.registers.specs.Settle.{accepted, declined, driveNamed, replied, regsWithUnread, regsChanged, regsAll, regsResponded, regsOf}
@@ -304,21 +304,21 @@ module _ (r : Regs) (command t b : List ℕ) where
         (laid-ran r [] (byte command 1) (shapeOf command) t b (d .cylinder) (numberedFor command (d .cylinder)) a a′ t′ b′ f w x)
 
   -- by whether there is an execution phase
-  format-by : (v : Bool) → v ≡ hasPhase (r .setting .machine) (byte command 3) (driveNamed (byte command 1) r .disk)
+  format-by : (v : Bool) → v ≡ hasPhase (settingOf (r .setting) .machine) (byte command 3) (driveNamed (byte command 1) r .disk)
       → (x : List ℕ) → formatIf v (roomsOf b x) command (namedIn (byte command 1) r t b) ≡ formatHere command r t b x
   unfolding formatTrack
   format-by v e x =
       ap (λ (f : Bool). formatIf f (roomsOf b x) command (namedIn (byte command 1) r t b))
-      (e ∙ ap (hasPhase (r .setting .machine) (byte command 3)) (named-ready r (byte command 1) t b))
+      (e ∙ ap (hasPhase (settingOf (r .setting) .machine) (byte command 3)) (named-ready r (byte command 1) t b))
 
-  pub format-phase : (v : Bool) → v ≡ hasPhase (r .setting .machine) (byte command 3) (driveNamed (byte command 1) r .disk) → v ≡ true
+  pub format-phase : (v : Bool) → v ≡ hasPhase (settingOf (r .setting) .machine) (byte command 3) (driveNamed (byte command 1) r .disk) → v ≡ true
       → (x : List ℕ) → Stores (formatHere command r t b x) r t b (accepted silent (regsChanged (Start (byte command 1) (IntoTrack (shapeOf command))) r)) t b
   unfolding regsOf regsAll regsResponded
   format-phase v e q x =
       subst (λ (y : Result Effect). Stores y r t b (accepted silent (regsChanged (Start (byte command 1) (IntoTrack (shapeOf command))) r)) t b)
       (format-by true (sym q ∙ e) x) (refl, (refl, refl))
 
-  pub format-whole : (v : Bool) → v ≡ hasPhase (r .setting .machine) (byte command 3) (driveNamed (byte command 1) r .disk) → v ≡ false
+  pub format-whole : (v : Bool) → v ≡ hasPhase (settingOf (r .setting) .machine) (byte command 3) (driveNamed (byte command 1) r .disk) → v ≡ false
       → (a : Written) (t′ b′ x : List ℕ) → Stores (atOnceHere command r t b x) r t b a t′ b′ → Stores (formatHere command r t b x) r t b a t′ b′
   format-whole v e q a t′ b′ x h = subst (λ (y : Result Effect). Stores y r t b a t′ b′) (format-by false (sym q ∙ e) x) h
 

@@ -5,8 +5,7 @@ use mathlib.Core.Bool.{Bool, true, false, not}
 use mathlib.Core.List.{[], _∷_}
 use lib.Dec.{eqb}
 use Rattle.fields.proofs.Tests.{never}
-use Rattle.registers.specs.declared.regs.Machine.{Machine}
-use Rattle.registers.specs.declared.regs.Machine.the-variants.{Rust, DataSheet}
+use Rattle.registers.specs.Boxes.{Machine, Rust, DataSheet}
 use Rattle.registers.specs.Boxes.{Stay, Reply}
 use Rattle.registers.specs.View.{isRust}
 use Rattle.commands.specs.Commands.{noSeek, invalid, hasPhase}

@@ -25,11 +25,9 @@ use Rattle.codes.specs.declared.command.Command.the-variants.{Specify, SenseDri
 use Rattle.codes.specs.declared.command.Command.the-variants.{Version, ReadData, ReadDeleted, WriteData, ReadId, FormatTrack, Unserved, Invalid}
 use Rattle.registers.specs.declared.regs.Goal.{Goal}
 use Rattle.registers.specs.declared.regs.Goal.the-variants.{IntoSector, IntoTrack}
-use Rattle.registers.specs.declared.regs.Machine.{Machine}
-use Rattle.registers.specs.declared.regs.Machine.the-variants.{Rust, DataSheet}
-use Rattle.registers.specs.declared.regs.Setting.{Setting}
 use Rattle.registers.specs.declared.regs.Shape.{Shape}
 use Rattle.registers.specs.declared.regs.Report.{Report}
+use Rattle.registers.specs.Boxes.{Machine, Rust, DataSheet, Setting}
 use Rattle.registers.specs.Boxes.{Rooms, Slot, Empty, Holds, Drives, Writing, Named, named, seven, silent, serves}
 use Rattle.registers.specs.Boxes.{Change, MoveTo, Turn, Start, Finish, Response, Stay, Reply, ReplyIfNone, Seeking, Interrupt, Serve, Effect}
 

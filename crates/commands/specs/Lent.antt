@@ -13,7 +13,7 @@ use Rattle.registers.specs.declared.regs.Goal.{Goal}
 use Rattle.registers.specs.declared.regs.Regs.{Regs}
 use Rattle.registers.specs.declared.regs.Report.{Report}
 use Rattle.registers.specs.declared.regs.Written.{Written}
-use Rattle.registers.specs.Boxes.{Response, Stay, Reply, ReplyIfNone, Seeking, Interrupt, Serve, Effect, Sent, World}
+use Rattle.registers.specs.Boxes.{settingOf, Response, Stay, Reply, ReplyIfNone, Seeking, Interrupt, Serve, Effect, Sent, World}
 use Rattle.registers.specs.View.{roomsOf, writingOf, drivesOf, namedIn, worldOf}
 use Rattle.registers.specs.Settle.{declined, regsTaken, heldTaken, regsOf}
 use Rattle.commands.specs.Commands.{byte, readData, formatAtOnce, formatTrack, writtenInto, written, obeyed}
@@ -72,7 +72,7 @@ abbrev pub atOnceHere : List ℕ → Regs → List ℕ → List ℕ → List ℕ
 atOnceHere command r t b x = formatAtOnce (roomsOf b x) command (namedIn (byte command 1) r t b)
 
 abbrev pub formatHere : List ℕ → Regs → List ℕ → List ℕ → List ℕ → Result Effect
-formatHere command r t b x = formatTrack (r .setting) (roomsOf b x) command (namedIn (byte command 1) r t b)
+formatHere command r t b x = formatTrack (settingOf (r .setting)) (roomsOf b x) command (namedIn (byte command 1) r t b)
 
 abbrev pub intoHere : Goal → List ℕ → Regs → List ℕ → List ℕ → List ℕ → Result Effect
 intoHere g held r t b x = writtenInto g (roomsOf b x) (r .write .c1) held (namedIn (r .write .c1) r t b)
@@ -81,7 +81,7 @@ abbrev pub writtenHere : List ℕ → Regs → List ℕ → List ℕ → List �
 writtenHere held r t b x = written (roomsOf b x) (writingOf (r .write) held) (namedIn (r .write .c1) r t b)
 
 abbrev pub ranHere : Command → List ℕ → Regs → List ℕ → List ℕ → List ℕ → Ran
-ranHere which command r t b x = ranOf (obeyed (r .setting) (roomsOf b x) which command (drivesOf r t b) (r .index)) r t b x
+ranHere which command r t b x = ranOf (obeyed (settingOf (r .setting)) (roomsOf b x) which command (drivesOf r t b) (r .index)) r t b x
 
 -- ---- What a byte leaves: the same, and the held bytes
 

@@ -16,6 +16,7 @@ use registers::Seek;
 use registers::Shape;
 use registers::Written;
 use registers::fitted;
+use registers::is_rust;
 use store::Done;
 use store::Has;
 use store::IdFound;
@@ -29,7 +30,7 @@ ghost use Rattle.disk.specs.Calls.{setOf};
 ghost use Rattle.codes.specs.Second.{headOf};
 ghost use Rattle.tracks.specs.Rows.{idsAt};
 ghost use Rattle.registers.specs.declared.regs.Goal.the-variants.{IntoTrack};
-ghost use Rattle.registers.specs.Boxes.{fitted, Interrupt, ReplyIfNone};
+ghost use Rattle.registers.specs.Boxes.{settingOf, fitted, Interrupt, ReplyIfNone};
 ghost use Rattle.registers.specs.View.{namedIn};
 ghost use Rattle.registers.specs.Settle.{driveNamed, replied, regsWithUnread, regsResponded, regsOf};
 ghost use Rattle.commands.specs.Commands.{idOf, noId, missing, notReady, notReadyId, senseIf, seekIf, noSeek, invalid, markOf, readReply, writeData};
@@ -114,17 +115,16 @@ fn seek(regs: Regs, c1: u8, cylinder: u8) -> Written
 
 // Sense Interrupt with no seek to tell of.
 fn no_seek(regs: Regs, c: u8) -> Regs
-    ensures { λ r. ⌜ r ≡ replied (noSeek (regs .setting .machine) c) regs ⌝ }
+    ensures { λ r. ⌜ r ≡ replied (noSeek (settingOf (regs .setting) .machine) c) regs ⌝ }
 {
-    let setting = regs.setting;
-    if setting.is_rust() {
+    if is_rust(regs.setting) {
         return regs.reply2(St0::UNKNOWN, c);
     }
     regs.reply1(St0::UNKNOWN)
 }
 
 fn sense_interrupt(regs: Regs) -> Regs
-    ensures { λ r. ⌜ r ≡ regsResponded (Interrupt (regs .drive .cylinder) (noSeek (regs .setting .machine) (regs .drive .cylinder))) regs ⌝ }
+    ensures { λ r. ⌜ r ≡ regsResponded (Interrupt (regs .drive .cylinder) (noSeek (settingOf (regs .setting) .machine) (regs .drive .cylinder))) regs ⌝ }
 {
     let d = regs.drive;
     let c = d.cylinder;
@@ -138,10 +138,9 @@ fn sense_interrupt(regs: Regs) -> Regs
 
 // A first byte that is no command's.
 fn invalid(regs: Regs) -> Regs
-    ensures { λ r. ⌜ r ≡ regsResponded (invalid (regs .setting .machine)) regs ⌝ }
+    ensures { λ r. ⌜ r ≡ regsResponded (invalid (settingOf (regs .setting) .machine)) regs ⌝ }
 {
-    let setting = regs.setting;
-    if setting.is_rust() {
+    if is_rust(regs.setting) {
         return regs;
     }
     regs.reply1(St0::UNKNOWN)
@@ -333,10 +332,9 @@ fn format_at_once(regs: Regs, command: [u8; 9], table: &mut [u8], bytes: &mut [u
 
 // Whether a Format has an execution phase: in the data-sheet machine, with a disk in the drive, for one sector or more.
 fn has_phase(regs: Regs, c1: u8, count: u8) -> bool
-    ensures { λ r. ⌜ r ≡ hasPhase (regs .setting .machine) count (driveNamed c1 regs .disk) ⌝ }
+    ensures { λ r. ⌜ r ≡ hasPhase (settingOf (regs .setting) .machine) count (driveNamed c1 regs .disk) ⌝ }
 {
-    let setting = regs.setting;
-    if setting.is_rust() {
+    if is_rust(regs.setting) {
         return false;
     }
     let d = regs.named(c1);

@@ -1,6 +1,6 @@
 -- What the calls on a whole controller, its registers and the held bytes, answer and leave: those of the registers (`crates/registers`)
 -- and of a byte sent (`crates/sending`), with the held bytes beside them.
-use Prim.Native.Nat.{ℕ}
+use Prim.Native.Nat.{ℕ, _%_}
 use mathlib.Core.Bool.{false}
 use mathlib.Core.List.{List}
 use lib.ListN.{replicate}
@@ -13,16 +13,15 @@ use Rattle.registers.specs.declared.regs.Byte.{Byte}
 use Rattle.registers.specs.declared.regs.Seek.the-variants.{Idle}
 use Rattle.registers.specs.declared.regs.Receipt.{Receipt}
 use Rattle.registers.specs.declared.regs.Switched.{Switched}
-use Rattle.registers.specs.declared.regs.Setting.{Setting}
 use Rattle.registers.specs.declared.regs.Told.{Told}
 use Rattle.registers.specs.Settle.{noPending}
 use Rattle.registers.specs.Calls.{statusRead, dataRead}
 use Rattle.commands.specs.Lent.{Left, left}
 use Rattle.sending.specs.Calls.{dataWrite}
 
--- `Floppy::new_with`: no number but 0, no flag but off; `Floppy::new` has the Rust machine
-unfoldable pub newFloppy : Setting → Floppy
-newFloppy x = record {
+-- `Floppy::new_with`: no number but 0, no flag but off, and bit 0 of the setting; `Floppy::new` is setting 0, the Rust machine
+unfoldable pub newFloppy : ℕ → Floppy
+newFloppy n = record {
   regs = record {
     command = replicate 9 0;
     count = 0;
@@ -36,7 +35,7 @@ newFloppy x = record {
     index = 0;
     write = noPending;
     drive = record { cylinder = 0; seek = Idle; disk = false };
-    setting = x;
+    setting = n % 2;
   };
   held = replicate mostHeld 0;
 }

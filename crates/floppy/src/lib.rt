@@ -1,19 +1,15 @@
 // The floppy controller uPD765A, over a disk that is kept in a lent table and a lent data buffer. What is read lies in a lent transfer buffer.
 use fields::HELD;
 use registers::Byte;
-use registers::Choice;
 use registers::Drive;
 use registers::Flag;
-use registers::Machine;
 use registers::Pending;
 use registers::Receipt;
 use registers::Regs;
 use registers::Seek;
-use registers::Setting;
 use store::Done;
 ghost use mathlib.Core.Path.{_≡_};
 ghost use Rattle.floppy.specs.Calls.{newFloppy, shown, sentAs, changedAs, wrote, statusCall, readCall, writeCall};
-ghost use Rattle.registers.specs.Boxes.{rustMachine};
 ghost use Rattle.registers.specs.Calls.{motorSet, diskSet, motorOf, currentTrack, diskIn, settingIn};
 
 // A controller: its registers, and beside them the bytes of an unfinished write.
@@ -43,15 +39,13 @@ pub struct Changed {
 impl Floppy {
     // A new controller with the Rust machine.
     pub fn new() -> Floppy
-        ensures { λ r. ⌜ r ≡ newFloppy rustMachine ⌝ }
+        ensures { λ r. ⌜ r ≡ newFloppy 0 ⌝ }
     {
-        let setting = Setting {
-            machine: Machine::Rust,
-        };
-        Floppy::new_with(setting)
+        Floppy::new_with(0)
     }
 
-    pub fn new_with(setting: Setting) -> Floppy
+    // A new controller with a setting, of which bit 0 is the machine: 0 the Rust's, 1 the data sheet's. Other bits mean nothing yet.
+    pub fn new_with(setting: u8) -> Floppy
         ensures { λ r. ⌜ r ≡ newFloppy setting ⌝ }
     {
         let drive = Drive {
@@ -72,7 +66,7 @@ impl Floppy {
             index: 0,
             write: Pending::none(),
             drive,
-            setting,
+            setting: setting % 2,
         };
         Floppy {
             regs,
@@ -114,8 +108,8 @@ impl Floppy {
         regs.disk()
     }
 
-    // What the controller was made with.
-    pub fn setting(self) -> Choice
+    // The setting that the controller was made with.
+    pub fn setting(self) -> Byte
         ensures { λ r. ⌜ r ≡ settingIn (self .regs) ⌝ }
     {
         let regs = self.regs;

@@ -12,15 +12,13 @@ use Rattle.fields.specs.Bytes.{byteAt, numberAt}
 use Rattle.fields.proofs.Tests.{and-fst, and-snd}
 use Rattle.registers.specs.declared.regs.Goal.{Goal}
 use Rattle.registers.specs.declared.regs.Goal.the-variants.{IntoSector, IntoTrack}
-use Rattle.registers.specs.declared.regs.Machine.{Machine}
-use Rattle.registers.specs.declared.regs.Machine.the-variants.{Rust, DataSheet}
-use Rattle.registers.specs.declared.regs.Setting.{Setting}
 use Rattle.registers.specs.declared.regs.Regs.{Regs}
 use Rattle.registers.specs.declared.regs.Seek.{Seek}
 use Rattle.registers.specs.declared.regs.Seek.the-variants.{Idle, Running, Done}
 use Rattle.layout.specs.Layout.{controllerLength, flagByte, seekByte, machineByte, settingByte, kindByte, goalBytes, partFor, numbersFor}
 use Rattle.layout.specs.Layout.{flagAt, seekAt, machineIf, settingAt, goalIf, regsAt, heldAt, formed, Fitting}
 use Rattle.layout.proofs.Images.{formed-long}
+use Rattle.registers.specs.Boxes.{Machine, Rust, DataSheet, Setting}
 
 -- ---- one by one
 

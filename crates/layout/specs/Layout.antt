@@ -12,14 +12,12 @@ use Rattle.fields.specs.declared.refusal.Refusal.the-variants.{BadController}
 use Rattle.registers.specs.declared.regs.Regs.{Regs}
 use Rattle.registers.specs.declared.regs.Goal.{Goal}
 use Rattle.registers.specs.declared.regs.Goal.the-variants.{IntoSector, IntoTrack}
-use Rattle.registers.specs.declared.regs.Machine.{Machine}
-use Rattle.registers.specs.declared.regs.Machine.the-variants.{Rust, DataSheet}
 use Rattle.registers.specs.declared.regs.Pending.{Pending}
-use Rattle.registers.specs.declared.regs.Setting.{Setting}
 use Rattle.registers.specs.declared.regs.Drive.{Drive}
 use Rattle.registers.specs.declared.regs.Seek.{Seek}
 use Rattle.registers.specs.declared.regs.Seek.the-variants.{Idle, Running, Done}
 use Rattle.floppy.specs.declared.Floppy.{Floppy}
+use Rattle.registers.specs.Boxes.{Machine, Rust, DataSheet, Setting}
 
 -- how many bytes the numbers take, and the whole controller
 abbrev pub numbersLength : ℕ

@@ -15,9 +15,9 @@ use Rattle.codes.proofs.Rows.{bytes-range}
 use Rattle.registers.specs.declared.regs.Regs.{Regs}
 use Rattle.registers.specs.declared.regs.Goal.{Goal}
 use Rattle.registers.specs.declared.regs.Pending.{Pending}
-use Rattle.registers.specs.declared.regs.Setting.{Setting}
 use Rattle.registers.specs.declared.regs.Seek.{Seek}
 use Rattle.registers.specs.declared.regs.Seek.the-variants.{Idle, Running, Done}
+use Rattle.registers.specs.Boxes.{settingOf, Setting}
 use Rattle.registers.specs.Boxes.{wholeOf, Add, Hold, Change, Clear, MoveTo, Turn, Start, Finish}
 use Rattle.registers.specs.Boxes.{Response, Stay, Reply, ReplyIfNone, Seeking, Interrupt, Serve}
 use Rattle.registers.specs.Ports.{settled, Poll, Stays, Counts, Drops, pollBy, sourceBy}
@@ -152,14 +152,14 @@ module _ (r : Regs) (room : ℕ) (w : Lawful r room) where
 
   -- ---- a byte of a write: one that is held, or the last, with which the write is done with
 
-  held-right : (f : Bool) (p : Pending) → wrongWork (r .setting) (p .c1) (goalOf p) (p .taken) ≡ false → p .taken + 1 < wholeOf (goalOf p)
-      → wrongWrite (r .setting) (pendingWith f (p .taken + 1) p) ≡ false
-  held-right true p e h = work-more (r .setting) (p .c1) (goalOf p) (p .taken) (p .taken + 1) h e
+  held-right : (f : Bool) (p : Pending) → wrongWork (settingOf (r .setting)) (p .c1) (goalOf p) (p .taken) ≡ false → p .taken + 1 < wholeOf (goalOf p)
+      → wrongWrite (settingOf (r .setting)) (pendingWith f (p .taken + 1) p) ≡ false
+  held-right true p e h = work-more (settingOf (r .setting)) (p .c1) (goalOf p) (p .taken) (p .taken + 1) h e
   held-right false p e h = refl
 
   pub kept-held : (b : ℕ) → r .write .on ≡ true → r .write .taken + 1 < wholeOf (goalOf (r .write)) → Lawful (regsTaken (Hold b) r) room
   kept-held b on h =
-      let right = held-right (r .write .on) (r .write) (write-right (r .setting) (r .write) (w .write) on) h in
+      let right = held-right (r .write .on) (r .write) (write-right (settingOf (r .setting)) (r .write) (w .write) on) h in
       let most = whole-most (goalOf (r .write)) (w .small .few) in
       let fits : Small (r .index) (r .write .taken + 1) (goalOf (r .write)) =
       record { index-fits = w .small .index-fits; taken-fits = omega (arith, h, most); few = w .small .few } in
@@ -173,7 +173,7 @@ module _ (r : Regs) (room : ℕ) (w : Lawful r room) where
 -- ---- changes that a command brings
 
 module _ (room : ℕ) where
-  kept-change : (x : Change) (r : Regs) → Fair (r .setting) x → Lawful r room → Lawful (regsChanged x r) room
+  kept-change : (x : Change) (r : Regs) → Fair (settingOf (r .setting)) x → Lawful r room → Lawful (regsChanged x r) room
   kept-change Clear r f w = record {
     command = record { nine = w .command .nine; below = omega (arith, bytes-range (commandOf (getD (r .command) 0 0)) .0) };
     reply = w .reply;
@@ -189,7 +189,7 @@ module _ (room : ℕ) where
       let back = sym (goal-kept g) in
       let fits : Small (r .index) 0 (goalIf (trackIn g) (targetIn g)) =
       record { index-fits = w .small .index-fits; taken-fits = omega arith; few = subst Few back (f .1) } in
-      let right = subst (λ (x : Goal). wrongWork (r .setting) c1 x 0 ≡ false) back (f .0) in
+      let right = subst (λ (x : Goal). wrongWork (settingOf (r .setting)) c1 x 0 ≡ false) back (f .0) in
       record { command = w .command; reply = w .reply; unread = w .unread; write = right; small = fits }
   kept-change Finish r f w =
       let fits : Small (r .index) 0 (goalOf (r .write)) = record { index-fits = w .small .index-fits; taken-fits = omega arith; few = w .small .few } in
@@ -203,11 +203,11 @@ module _ (room : ℕ) where
   setting-kept (Start c1 g) r = refl
   setting-kept Finish r = refl
 
-  pub kept-changes : (xs : List Change) (r : Regs) → AllFair (r .setting) xs → Lawful r room → Lawful (regsAll xs r) room
+  pub kept-changes : (xs : List Change) (r : Regs) → AllFair (settingOf (r .setting)) xs → Lawful r room → Lawful (regsAll xs r) room
   unfolding regsAll
   kept-changes [] r f w = w
   kept-changes (x ∷ xs) r f w =
-      kept-changes xs (regsChanged x r) (subst (λ (s : Setting). AllFair s xs) (sym (setting-kept x r)) (f .1)) (kept-change x r (f .0) w)
+      kept-changes xs (regsChanged x r) (subst (λ (n : ℕ). AllFair (settingOf n) xs) (sym (setting-kept x r)) (f .1)) (kept-change x r (f .0) w)
 
   -- ---- responses
 

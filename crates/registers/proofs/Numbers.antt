@@ -17,13 +17,13 @@ use Rattle.registers.specs.declared.regs.Regs.{Regs}
 use Rattle.registers.specs.declared.regs.Pending.{Pending}
 use Rattle.registers.specs.declared.regs.Goal.{Goal}
 use Rattle.registers.specs.declared.regs.Goal.the-variants.{IntoSector, IntoTrack}
-use Rattle.registers.specs.declared.regs.Setting.{Setting}
 use Rattle.registers.specs.declared.regs.Shape.{Shape}
 use Rattle.codes.specs.Table.{commandOf, bytesFor}
-use Rattle.registers.specs.View.{goalIf, goalOf, unknownTo, impossible, impossibleIn, wrongWork, wrongWrite}
+use Rattle.registers.specs.Boxes.{Setting}
+use Rattle.registers.specs.View.{goalIf, goalOf, isRust, unknownTo, impossible, impossibleIn, wrongWork, wrongWrite}
 use Rattle.codes.proofs.Rows.{bytes-range}
 use Rattle.store.proofs.Checks.{transfer-in}
-use Rattle.registers.specs.Boxes.{wholeOf, fitted}
+use Rattle.registers.specs.Boxes.{machineIf, wholeOf, fitted}
 use Rattle.registers.specs.Settle.{trackIn, targetIn}
 use Rattle.registers.specs.Possible.{Possible, Few}
 
@@ -62,6 +62,11 @@ count-few r e = omega (arith, possible r e .count-in, bytes-range (commandOf (ge
 -- unread data lie in the transfer buffer
 pub until-long : (x : List ℕ) (r : Regs) → impossibleIn x r ≡ false → r .until ≤ length x
 until-long x r e = omega (arith, until-in x r e, transfer-in x)
+
+-- a machine, by whether it is the Rust's
+pub rust-by : (f : Bool) → f ≡ isRust (machineIf f)
+rust-by true = refl
+rust-by false = refl
 
 -- how many bytes are written at the most
 pub whole-most : (g : Goal) → Few g → wholeOf g ≤ mostHeld

@@ -11,8 +11,6 @@ use Rattle.store.specs.declared.answer.Match.{Match}
 use Rattle.store.specs.Search.{noMatch}
 use Rattle.codes.specs.Second.{driveOf}
 use Rattle.registers.specs.declared.regs.Report.{Report}
-use Rattle.registers.specs.declared.regs.Machine.the-variants.{Rust, DataSheet}
-use Rattle.registers.specs.declared.regs.Setting.{Setting}
 use Rattle.registers.specs.declared.regs.Goal.{Goal}
 use Rattle.registers.specs.declared.regs.Goal.the-variants.{IntoSector, IntoTrack}
 use Rattle.registers.specs.declared.regs.Seek.{Seek}
@@ -27,7 +25,23 @@ pub record Rooms : Type 0 where
 
 -- ---- What a controller is made with
 
--- the Rust machine, and the data-sheet machine (2026-06)
+-- the machines: the Rust's, and the data sheet's (2026-06)
+pub data Machine : Type 0 where
+  Rust : Machine
+  DataSheet : Machine
+
+pub record Setting : Type 0 where
+  pub machine : Machine
+
+-- the setting that a number names: bit 0 is the machine, other bits mean nothing yet
+abbrev pub machineIf : Bool → Machine
+machineIf true = Rust
+machineIf false = DataSheet
+
+abbrev pub settingOf : ℕ → Setting
+settingOf n = record { machine = machineIf (eqb (n % 2) 0) }
+
+-- with the Rust machine, and with the data-sheet machine
 abbrev pub rustMachine : Setting
 rustMachine = record { machine = Rust }
 

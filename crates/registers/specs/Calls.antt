@@ -11,9 +11,6 @@ use Rattle.registers.specs.declared.regs.Switched.{Switched}
 use Rattle.registers.specs.declared.regs.Told.{Told}
 use Rattle.registers.specs.declared.regs.Byte.{Byte}
 use Rattle.registers.specs.declared.regs.Byte.the-variants as byte
-use Rattle.registers.specs.declared.regs.Choice.{Choice}
-use Rattle.registers.specs.declared.regs.Choice.the-variants as choice
-use Rattle.registers.specs.declared.regs.Setting.{Setting}
 use Rattle.registers.specs.declared.regs.Flag.{Flag}
 use Rattle.registers.specs.declared.regs.Flag.the-variants as flag
 use Rattle.registers.specs.Ports.{phase, seekBit, settled, Poll, Stays, Counts, Drops, pollBy, Source, Bytes, Replies, Neither, sourceBy}
@@ -94,10 +91,6 @@ currentTrack r = byteIf (impossible r) (r .drive .cylinder)
 unfoldable pub diskIn : Regs → Flag
 diskIn r = flagIf (impossible r) (r .drive .disk)
 
--- what the controller was made with (2026-06)
-abbrev pub choiceIf : Bool → Setting → Choice
-choiceIf true x = choice.Refused BadController
-choiceIf false x = choice.Of x
-
-unfoldable pub settingIn : Regs → Choice
-settingIn r = choiceIf (impossible r) (r .setting)
+-- the number of what the controller was made with (2026-06)
+unfoldable pub settingIn : Regs → Byte
+settingIn r = byteIf (impossible r) (r .setting)

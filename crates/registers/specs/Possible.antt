@@ -8,8 +8,8 @@ use Rattle.codes.specs.Table.{commandOf, bytesFor}
 use Rattle.registers.specs.declared.regs.Regs.{Regs}
 use Rattle.registers.specs.declared.regs.Goal.{Goal}
 use Rattle.registers.specs.declared.regs.Goal.the-variants.{IntoSector, IntoTrack}
-use Rattle.registers.specs.declared.regs.Setting.{Setting}
-use Rattle.registers.specs.Boxes.{Change, Clear, MoveTo, Turn, Start, Finish}
+use Rattle.registers.specs.Boxes.{Setting}
+use Rattle.registers.specs.Boxes.{settingOf, Change, Clear, MoveTo, Turn, Start, Finish}
 use Rattle.registers.specs.Boxes.{Response, Stay, Reply, ReplyIfNone, Seeking, Interrupt, Serve}
 use Rattle.registers.specs.View.{goalOf, wrongWork, wrongWrite}
 
@@ -20,7 +20,7 @@ pub record Possible (r : Regs) : Type 0 where
   pub fill-in : r .fill ≤ 7
   pub count-in : r .count < bytesFor (commandOf (getD (r .command) 0 0))
   pub lost-in : r .lost ≤ 2
-  pub write-in : wrongWrite (r .setting) (r .write) ≡ false
+  pub write-in : wrongWrite (settingOf (r .setting)) (r .write) ≡ false
 
 -- ---- The same box by box, with the lengths and the rooms
 
@@ -55,7 +55,7 @@ pub record Lawful (r : Regs) (room : ℕ) : Type 0 where
   pub command : Partly (r .command) (r .count)
   pub reply : Replying (r .reply) (r .place) (r .fill)
   pub unread : Unread (r .from) (r .until) (r .lost) room
-  pub write : wrongWrite (r .setting) (r .write) ≡ false
+  pub write : wrongWrite (settingOf (r .setting)) (r .write) ≡ false
   pub small : Small (r .index) (r .write .taken) (goalOf (r .write))
 
 -- ---- What changes and responses must be

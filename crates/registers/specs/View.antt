@@ -12,14 +12,12 @@ use Rattle.fields.specs.Model.{Disk}
 use Rattle.store.specs.Store.{roomOf, diskOf, transferRoom}
 use Rattle.registers.specs.declared.regs.Regs.{Regs}
 use Rattle.registers.specs.declared.regs.Pending.{Pending}
-use Rattle.registers.specs.declared.regs.Setting.{Setting}
 use Rattle.registers.specs.declared.regs.Target.{Target}
 use Rattle.registers.specs.declared.regs.Goal.{Goal}
 use Rattle.registers.specs.declared.regs.Goal.the-variants.{IntoSector, IntoTrack}
-use Rattle.registers.specs.declared.regs.Machine.{Machine}
-use Rattle.registers.specs.declared.regs.Machine.the-variants.{Rust, DataSheet}
+use Rattle.registers.specs.Boxes.{Machine, Rust, DataSheet, Setting}
 use Rattle.registers.specs.Boxes.{Rooms, Slot, Empty, Holds, Drives, wholeOf, Writing, Inside, Front, World}
-use Rattle.registers.specs.Boxes.{fitted, Named, named}
+use Rattle.registers.specs.Boxes.{settingOf, fitted, Named, named}
 use Rattle.codes.specs.Table.{commandOf, bytesFor}
 use Rattle.store.specs.declared.answer.Done.the-variants as done
 use Rattle.registers.specs.declared.regs.Told.{Told}
@@ -74,7 +72,7 @@ writingIf false p h = none
 
 unfoldable pub insideOf : Regs → List ℕ → Slot → Inside
 insideOf r h slot = record {
-  setting = r .setting;
+  setting = settingOf (r .setting);
   motor = r .motor;
   index = r .index;
   command = take (r .count) (r .command);
@@ -130,7 +128,7 @@ impossible r =
     || (ltb 7 (r .fill)
     || (leb (bytesFor (commandOf (getD (r .command) 0 0))) (r .count)
     || (ltb 2 (r .lost)
-    || wrongWrite (r .setting) (r .write)))))
+    || wrongWrite (settingOf (r .setting)) (r .write)))))
 
 -- in a call that is lent the transfer buffer: or data fill beyond its room
 unfoldable pub impossibleIn : List ℕ → Regs → Bool

@@ -1,6 +1,5 @@
 // Reads of the two ports, and the calls that ask or change one box.
 use crate::regs::Byte;
-use crate::regs::Choice;
 use crate::regs::Drive;
 use crate::regs::Flag;
 use crate::regs::Regs;
@@ -186,15 +185,14 @@ impl Regs {
         Flag::Of(self.drive.disk)
     }
 
-    // What the controller was made with.
-    pub fn setting(self) -> Choice
+    // The number of what the controller was made with.
+    pub fn setting(self) -> Byte
         ensures { λ r. ⌜ r ≡ settingIn self ⌝ }
     {
         if self.impossible() {
-            return Choice::Refused(Refusal::BadController);
+            return Byte::Refused(Refusal::BadController);
         }
-        let setting = self.setting;
-        Choice::Of(setting)
+        Byte::Of(self.setting)
     }
 
     // Another disk, or none: all else is carried over.

@@ -13,7 +13,7 @@ ghost use lib.ListN.{getD};
 ghost use lib.Dec.{leb};
 ghost use Rattle.fields.specs.Capacities.{mostHeld};
 ghost use Rattle.codes.specs.Table.{commandOf, bytesFor};
-ghost use Rattle.registers.specs.Boxes.{wholeOf, silent, serves, fitted, seven, Add, Hold, Clear, Turn, Start, Finish, MoveTo};
+ghost use Rattle.registers.specs.Boxes.{settingOf, wholeOf, silent, serves, fitted, seven, Add, Hold, Clear, Turn, Start, Finish, MoveTo};
 ghost use Rattle.registers.specs.View.{goalOf, isRust, unknownTo, impossible, wrongWrite};
 ghost use Rattle.registers.specs.Settle.{accepted, declined, driveNamed, replied, regsWithDrive, noPending, trackIn, targetIn, pendingWith, regsTaken, regsChanged, kept};
 
@@ -29,17 +29,6 @@ pub struct Drive {
     pub cylinder: u8,
     pub seek: Seek,
     pub disk: bool,
-}
-
-// The machines: the Rust's, and the data sheet's.
-pub enum Machine {
-    Rust,
-    DataSheet,
-}
-
-// What a controller is made with.
-pub struct Setting {
-    pub machine: Machine,
 }
 
 // A track that a Format asks for: its n, how many sectors, gap and filler.
@@ -74,7 +63,7 @@ pub struct Pending {
 }
 
 // In the Rust: `cmd` is `command` and `count`; `reply` is `reply`, `place` and `fill`; `data` is the transfer buffer from `from` up to `until`;
-// `lost_read` is `lost`; `read_id_idx` is `index`; `data_in` is `write`; `int_seek_completed` is the drive's `seek`.
+// `setting` is what the controller was made with, of which bit 0 is the machine. `lost_read` is `lost`; `read_id_idx` is `index`; `data_in` is `write`; `int_seek_completed` is the drive's `seek`.
 pub struct Regs {
     pub command: [u8; 9],
     pub count: u8,
@@ -88,7 +77,7 @@ pub struct Regs {
     pub index: u16,
     pub write: Pending,
     pub drive: Drive,
-    pub setting: Setting,
+    pub setting: u8,
 }
 
 // A byte, or why there is none.
@@ -100,12 +89,6 @@ pub enum Byte {
 // A flag, or why there is none.
 pub enum Flag {
     Of(bool),
-    Refused(Refusal),
-}
-
-// What a controller was made with, or why there is no answer.
-pub enum Choice {
-    Of(Setting),
     Refused(Refusal),
 }
 
@@ -138,23 +121,18 @@ pub struct Switched {
     pub regs: Regs,
 }
 
+// Whether a setting is that of the Rust machine: bit 0 is the machine.
+pub fn is_rust(setting: u8) -> bool
+    ensures { λ r. ⌜ r ≡ isRust (settingOf setting .machine) ⌝ }
+{
+    setting % 2 == 0
+}
+
 // Whether a command names a drive that is fitted: drive 0.
 pub fn fitted(c1: u8) -> bool
     ensures { λ r. ⌜ r ≡ fitted c1 ⌝ }
 {
     drive_of(c1) == 0
-}
-
-impl Setting {
-    pub fn is_rust(self) -> bool
-        ensures { λ r. ⌜ r ≡ isRust (self .machine) ⌝ }
-    {
-        let machine = self.machine;
-        match machine {
-            Machine::Rust => true,
-            Machine::DataSheet => false,
-        }
-    }
 }
 
 impl Goal {
@@ -198,12 +176,12 @@ impl Goal {
     }
 
     // Whether a machine has no such write: the Rust's has no Format in progress.
-    fn unknown_to(self, setting: Setting) -> bool
-        ensures { λ r. ⌜ r ≡ unknownTo (setting .machine) self ⌝ }
+    fn unknown_to(self, setting: u8) -> bool
+        ensures { λ r. ⌜ r ≡ unknownTo (settingOf setting .machine) self ⌝ }
     {
         match self {
             Goal::IntoSector(_) => false,
-            Goal::IntoTrack(_) => setting.is_rust(),
+            Goal::IntoTrack(_) => is_rust(setting),
         }
     }
 }
@@ -280,7 +258,7 @@ impl Regs {
 
     // Numbers that no write in progress has.
     fn wrong_write(self) -> bool
-        ensures { λ r. ⌜ r ≡ wrongWrite (self .setting) (self .write) ⌝ }
+        ensures { λ r. ⌜ r ≡ wrongWrite (settingOf (self .setting)) (self .write) ⌝ }
     {
         let p = self.write;
         if !p.on {
@@ -293,8 +271,7 @@ impl Regs {
         if !fitted(p.c1) {
             return true;
         }
-        let setting = self.setting;
-        goal.unknown_to(setting)
+        goal.unknown_to(self.setting)
     }
 
     // Numbers that no controller has.

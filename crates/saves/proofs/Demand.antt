@@ -17,7 +17,7 @@ use Rattle.store.specs.Find.{found}
 use Rattle.store.specs.Search.{sectorAt, matchAt}
 use Rattle.disk.specs.Change.{withContent, saved}
 use Rattle.codes.specs.declared.command.Command.the-variants.{SeekTo, WriteData}
-use Rattle.registers.specs.declared.regs.Setting.{Setting}
+use Rattle.registers.specs.Boxes.{Setting}
 use Rattle.registers.specs.Boxes.{Rooms, Holds, Inside, World, named, serves, Finish, changed, allChanged, putIn}
 use Rattle.codes.specs.Table.{commandOf, commandBy, rows}
 use Rattle.codes.specs.Second.{driveOf, headOf}

@@ -13,7 +13,7 @@ use Rattle.fields.specs.Model.{sizeOf, Disk}
 use Rattle.fields.specs.declared.id.SectorId.{SectorId}
 use Rattle.codes.specs.declared.command.Command.{Command}
 use Rattle.registers.specs.declared.regs.Goal.the-variants.{IntoSector}
-use Rattle.registers.specs.declared.regs.Setting.{Setting}
+use Rattle.registers.specs.Boxes.{Setting}
 use Rattle.registers.specs.Boxes.{Rooms, Holds, Drives, Inside, World, Add, Hold, Effect, Sent, named, taken, changed, allChanged, putIn}
 use Rattle.codes.specs.Table.{commandOf, bytesFor}
 use Rattle.registers.specs.Ports.{afterStatus, afterRead}

@@ -19,7 +19,7 @@ use Rattle.store.specs.Store.{contents}
 use Rattle.disk.specs.Change.{withContent}
 use Rattle.disk.specs.Calls.{endOf}
 use Rattle.codes.specs.declared.command.Command.the-variants.{ReadData}
-use Rattle.registers.specs.declared.regs.Setting.{Setting}
+use Rattle.registers.specs.Boxes.{Setting}
 use Rattle.registers.specs.Boxes.{Rooms, Inside, Front, World, Add, Serve, Sent, serves, responded}
 use Rattle.registers.specs.declared.regs.Report.{Report}
 use Rattle.codes.specs.Table.{commandOf}

@@ -18,7 +18,7 @@ use Rattle.store.specs.Search.{sectorAt, runFrom, readAt}
 use Rattle.store.specs.Store.{contents}
 use Rattle.store.specs.Fresh.{blank, blanks, formatted, freshFrom, fresh}
 use Rattle.disk.specs.Change.{change, saved}
-use Rattle.registers.specs.declared.regs.Setting.{Setting}
+use Rattle.registers.specs.Boxes.{Setting}
 use Rattle.registers.specs.Boxes.{Holds, World, newWorld, named, taken, changed, allChanged, putIn, responded}
 use Rattle.codes.specs.Table.{maskRows, rows, commandBy, commandOf}
 use Rattle.registers.specs.Ports.{afterRead, changeDisk}

@@ -5,9 +5,9 @@ use lib.ListN.{length}
 use Rattle.fields.specs.Capacities.{mostTransfer}
 use Rattle.fields.specs.Refusals.{Result, refused, good}
 use Rattle.store.specs.Store.{roomOf, diskOf}
+use Rattle.registers.specs.Boxes.{Setting}
 use Rattle.registers.specs.Boxes.{Rooms, Slot, Empty, Holds, World, newWorld, silent}
 use Rattle.registers.specs.declared.regs.Report.{Report}
-use Rattle.registers.specs.declared.regs.Setting.{Setting}
 use Rattle.registers.specs.Ports.{status, afterStatus, portByte, afterRead, setMotor, changeDisk}
 use Rattle.registers.specs.View.{slotIf}
 use Rattle.commands.specs.Commands.{ready}

@@ -32,10 +32,10 @@ use Rattle.registers.specs.declared.regs.Goal.{Goal}
 use Rattle.registers.specs.declared.regs.Goal.the-variants.{IntoSector, IntoTrack}
 use Rattle.registers.specs.declared.regs.Regs.{Regs}
 use Rattle.registers.specs.declared.regs.Pending.{Pending}
-use Rattle.registers.specs.declared.regs.Setting.{Setting}
 use Rattle.registers.specs.declared.regs.Shape.{Shape}
 use Rattle.registers.specs.declared.regs.Seek.{Seek}
 use Rattle.registers.specs.declared.regs.Seek.the-variants.{Idle, Running, Done}
+use Rattle.registers.specs.Boxes.{settingOf, Setting}
 use Rattle.registers.specs.Boxes.{Rooms, Slot, Holds, Drives, wholeOf, Writing, Inside, fitted, namedIf, named, silent, serves}
 use Rattle.registers.specs.Boxes.{withCommand, withWrite, withSlot, holdingIn}
 use Rattle.registers.specs.Boxes.{Taking, Add, Hold, Change, Clear, MoveTo, Turn, Start, Finish, Response, Stay, Reply, ReplyIfNone, Seeking, Interrupt, Serve, Effect, Sent}
@@ -244,9 +244,9 @@ module _ (r : Regs) (t d : List ℕ) where
       go (refused why) e = tt
       go (good v) e = (h, format-accepted t d y w New v e)
 
-  format-lays : (x l : List ℕ) → LaysE (formatTrack (r .setting) (roomsOf d x) l (namedIn (byte l 1) r t d))
+  format-lays : (x l : List ℕ) → LaysE (formatTrack (settingOf (r .setting)) (roomsOf d x) l (namedIn (byte l 1) r t d))
   unfolding formatTrack formatAtOnce
-  format-lays x l = go (hasPhase (r .setting .machine) (byte l 3) (ready (namedIn (byte l 1) r t d .slot)))
+  format-lays x l = go (hasPhase (settingOf (r .setting) .machine) (byte l 3) (ready (namedIn (byte l 1) r t d .slot)))
     where
       go : (v : Bool) → LaysE (formatIf v (roomsOf d x) l (namedIn (byte l 1) r t d))
       go true = tt
@@ -279,7 +279,7 @@ module _ (r : Regs) (t d : List ℕ) where
       go (IntoSector id) = sector-lays x (w .c1) id (w .held)
       go (IntoTrack z) = named-lays (w .c1) _ _ tt (λ y h e. track-lays x (Finish ∷ []) (w .c1) _ z _ y h e)
 
-  obeyed-lays : (x : List ℕ) (k : Command) (l : List ℕ) → LaysE (obeyed (r .setting) (roomsOf d x) k l (drivesOf r t d) (r .index))
+  obeyed-lays : (x : List ℕ) (k : Command) (l : List ℕ) → LaysE (obeyed (settingOf (r .setting)) (roomsOf d x) k l (drivesOf r t d) (r .index))
   unfolding obeyed
   obeyed-lays x Specify l = tt
   obeyed-lays x SenseDrive l = tt
@@ -293,7 +293,7 @@ module _ (r : Regs) (t d : List ℕ) where
   obeyed-lays x ReadId l = unput-lays (readId (byte l 1) (r .index) (namedIn (byte l 1) r t d)) (quiet-id _ _ _ .0)
   obeyed-lays x FormatTrack l = format-lays x l
   obeyed-lays x Unserved l = tt
-  obeyed-lays x Invalid l = unput-lays (does [] (invalid (r .setting .machine))) (quiet-invalid (r .setting .machine) .0)
+  obeyed-lays x Invalid l = unput-lays (does [] (invalid (settingOf (r .setting) .machine))) (quiet-invalid (settingOf (r .setting) .machine) .0)
 
   sent-lays : (x h : List ℕ) (b : ℕ) → LaysS (sent (roomsOf d x) (insideOf r h (slotOf r t d)) b)
   unfolding insideOf
@@ -345,7 +345,7 @@ module _ (r : Regs) (b : ℕ) (h t d x : List ℕ) (ok : impossibleIn x r ≡ fa
   seen-sent : (f : Bool) → r .write .on ≡ f → Sees r h t d x (leftOf (sent (roomsOf d x) (insideOf r h (slotOf r t d)) b) r h t d x) (reportOf (roomsOf d x) (worldOf r h t d x) b) (writePort (roomsOf d x) (worldOf r h t d x) b)
   unfolding writePort reportOf
   seen-sent true e =
-      let g : r .write .taken < length h = omega (arith, taken-few (r .setting) (r .write) (possible r (possible-in x r ok) .write-in) e, whole-most (goalOf (r .write)) fits) in
+      let g : r .write .taken < length h = omega (arith, taken-few (settingOf (r .setting)) (r .write) (possible r (possible-in x r ok) .write-in) e, whole-most (goalOf (r .write)) fits) in
       seen-byte (sent (roomsOf d x) (insideOf r h (slotOf r t d)) b) (Hold b) g (subst (Takes (Hold b)) (sent-data r b h t d x e) (data-takes _ b _ _)) (sent-lays r t d x h b)
   seen-sent false e =
       let g : r .count < length (r .command) = omega (arith, count-few r (possible-in x r ok)) in

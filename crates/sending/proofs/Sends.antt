@@ -22,7 +22,7 @@ use Rattle.registers.specs.declared.regs.Receipt.{Receipt}
 use Rattle.registers.specs.declared.regs.Receipt.the-variants as receipt
 use Rattle.registers.specs.declared.regs.Written.{Written}
 use Rattle.registers.specs.declared.regs.Report.{Report}
-use Rattle.registers.specs.declared.regs.Setting.{Setting}
+use Rattle.registers.specs.Boxes.{settingOf, Setting}
 use Rattle.registers.specs.Boxes.{silent, Rooms, Drives, Named, named, wholeOf, Inside, Add, Hold, Clear, Effect, Sent}
 use Rattle.codes.specs.Table.{commandOf, bytesFor}
 use Rattle.commands.specs.Commands.{byte, ready, formatAtOnce, hasPhase, formatIf, formatTrack, obeyed}
@@ -107,7 +107,7 @@ module _ (r : Regs) (b : ℕ) (h t d x : List ℕ) where
           rw (command-is, e)
 
       abbrev Obeyed : List ℕ → Result Effect
-      Obeyed l = obeyed (r .setting) (roomsOf d x) k l (drivesOf r t d) (r .index)
+      Obeyed l = obeyed (settingOf (r .setting)) (roomsOf d x) k l (drivesOf r t d) (r .index)
 
       command-whole : r .count + 1 ≡ n → (a : Written) (t′ d′ x′ : List ℕ)
           → ran a t′ d′ x′ ≡ ranOf (Obeyed Array) (regsChanged Clear (regsTaken (Add b) r)) t d x
@@ -117,7 +117,7 @@ module _ (r : Regs) (b : ℕ) (h t d x : List ℕ) where
           let m : r .count + 1 ≡ bytesFor k = q ∙ en in
           let f : eqb (length All) (bytesFor k) ≡ true = eq-eqb _ _ (all-length ∙ m) in
           let g : Obeyed Array ≡ Obeyed All =
-          front-same (r .setting) (roomsOf d x) k Array (drivesOf r t d) (r .index) array-long
+          front-same (settingOf (r .setting)) (roomsOf d x) k Array (drivesOf r t d) (r .index) array-long
           ∙ ap (λ (j : ℕ). Obeyed (take j Array)) (sym m)
           ∙ ap Obeyed (sym all-list) in
           rw (command-is, f)

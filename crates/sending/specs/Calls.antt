@@ -8,14 +8,14 @@ use Rattle.fields.specs.Capacities.{mostHeld}
 use Rattle.fields.specs.Refusals.{Result, need}
 use Rattle.fields.specs.declared.refusal.Refusal.the-variants.{BadController}
 use Rattle.registers.specs.declared.regs.Regs.{Regs}
-use Rattle.registers.specs.Boxes.{Sent}
+use Rattle.registers.specs.Boxes.{settingOf, Sent}
 use Rattle.registers.specs.View.{roomsOf, writingOf, slotOf, drivesOf, insideOf, impossibleIn}
 use Rattle.sending.specs.Machine.{commandByte, dataByte, sent}
 use Rattle.commands.specs.Lent.{Left, leftOf}
 
 -- what the machine says of a byte of a command, and of a byte of a write, by the boxes that are seen
 abbrev pub commandHere : Regs → ℕ → List ℕ → List ℕ → List ℕ → Result Sent
-commandHere r b t d x = commandByte (r .setting) (roomsOf d x) b (take (r .count) (r .command) ++ (b ∷ [])) (drivesOf r t d) (r .index)
+commandHere r b t d x = commandByte (settingOf (r .setting)) (roomsOf d x) b (take (r .count) (r .command) ++ (b ∷ [])) (drivesOf r t d) (r .index)
 
 abbrev pub dataHere : Regs → ℕ → List ℕ → List ℕ → List ℕ → List ℕ → Result Sent
 dataHere r b h t d x = dataByte (roomsOf d x) b (writingOf (r .write) (take (r .write .taken) h ++ (b ∷ []))) (drivesOf r t d)

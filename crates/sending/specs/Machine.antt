@@ -6,10 +6,10 @@ use mathlib.Core.Option.{Option, none, some}
 use lib.ListN.{length}
 use lib.Dec.{eqb}
 use Rattle.fields.specs.Refusals.{Result, refused, good, after}
+use Rattle.registers.specs.Boxes.{Setting}
 use Rattle.registers.specs.Boxes.{Rooms, Drives, wholeOf, Writing, Inside, World, named, holding, taken, allChanged, putIn, responded}
 use Rattle.registers.specs.Boxes.{Taking, Add, Hold, Clear, Stay, Effect, Sent, silent}
 use Rattle.registers.specs.declared.regs.Report.{Report}
-use Rattle.registers.specs.declared.regs.Setting.{Setting}
 use Rattle.codes.specs.declared.command.Command.{Command}
 use Rattle.codes.specs.Table.{commandOf, bytesFor}
 use Rattle.commands.specs.Commands.{byte, does, obeyed, written}

@@ -9,7 +9,7 @@ use Rattle.fields.specs.Refusals.{Result, refused, good, numberOf}
 use Rattle.fields.specs.Model.{sizeOf}
 use Rattle.image.specs.Dsk.{Dsk, dskOf}
 use Rattle.store.specs.Fresh.{fresh}
-use Rattle.registers.specs.declared.regs.Setting.{Setting}
+use Rattle.registers.specs.Boxes.{Setting}
 use Rattle.registers.specs.Boxes.{Rooms, rustMachine, sheetMachine, Slot, Empty, Holds, World, newWorld}
 use Rattle.registers.specs.Ports.{status, afterStatus, portByte, afterRead, changeDisk}
 use Rattle.sending.specs.Machine.{writePort}

@@ -27,9 +27,10 @@ done-requires c κs = search needs
 
 returns : tie.Need-returns
 returns c =
+    let g = c .before .before .before .before .before .before .before .args in
     let h = c .before .before .before .before .has-phase in
     λ x.
-    let q = format-phase _ _ _ _ _ (h .ensures) (c .before .before .before .if1 .taken) x in
+    let q = format-phase (g .regs) (g .t2) (g .table .now) (g .bytes .now) _ (h .ensures) (c .before .before .before .if1 .taken) x in
     (c .done .ensures ∙ simp (c .before .started .ensures, c .before .before .shape-of .ensures) (q .0), q .1)
 
 format-at-once-requires : tie.Need-format-at-once-requires
@@ -44,7 +45,8 @@ same-length-2 c = search needs
 returns-2 : tie.Need-returns-2
 returns-2 c =
     let h = c .before .before .before .before .before .before .before .before .has-phase in
-    λ x. format-whole _ _ _ _ _ (h .ensures) (c .before .before .before .before .before .before .before .if1 .left) _ _ _ x (c .before .before .before .before .format-at-once .ensures x)
+    let g = c .before .before .before .before .before .before .before .before .before .before .before .args in
+    λ x. format-whole (g .regs) (g .t2) (g .table .now) (g .bytes .now) _ (h .ensures) (c .before .before .before .before .before .before .before .if1 .left) _ _ _ x (c .before .before .before .before .format-at-once .ensures x)
 
 pub format-track-spec : {M : Type 1} → statement M
 format-track-spec =

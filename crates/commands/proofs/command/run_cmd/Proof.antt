@@ -2,7 +2,7 @@ use mathlib.Core.Path.{_≡_, ap, _∙_}
 use mathlib.Core.List.{[]}
 use Rattle.codes.specs.declared.command.Command.{Command}
 use Rattle.registers.specs.declared.regs.Written.{Written}
-use Rattle.registers.specs.Boxes.{silent}
+use Rattle.registers.specs.Boxes.{settingOf, silent}
 use Rattle.registers.specs.Settle.{accepted, regsOf, regsAll, regsResponded}
 use Rattle.commands.specs.Commands.{does, invalid, obeyed}
 use Rattle.commands.specs.Lent.{Ran, ran, ranHere}
@@ -263,7 +263,7 @@ unfolding obeyed regsOf regsAll regsResponded
 returns-13 c =
     let e = c .before .before in
     let s = e .before .before .before .before .before in
-    run-as s _ _ (e .enum-told13 .given .1) (ran-quiet _ _ _ _ (does [] (invalid (s .args .regs .setting .machine))) _ (quiet-invalid (s .args .regs .setting .machine)) (c .done6 .ensures ∙ ap (accepted silent) (c .before .invalid .ensures)))
+    run-as s _ _ (e .enum-told13 .given .1) (ran-quiet _ _ _ _ (does [] (invalid (settingOf (s .args .regs .setting) .machine))) _ (quiet-invalid (settingOf (s .args .regs .setting) .machine)) (c .done6 .ensures ∙ ap (accepted silent) (c .before .invalid .ensures)))
 
 pub run-cmd-spec : {M : Type 1} → statement M
 run-cmd-spec =

@@ -6,6 +6,7 @@ use borrow.Author.Needs.{needs}
 use Rattle.commands.proofs.command.sense_interrupt.Statement.{statement}
 use Rattle.commands.proofs.command.sense_interrupt.Tie as tie
 use Rattle.registers.proofs.regs.Regs.reply2.Reads as reply2-reads
+use Rattle.registers.specs.Boxes.{settingOf}
 
 enum-told : tie.Need-enum-told
 enum-told c = search needs
@@ -32,19 +33,19 @@ returns : tie.Need-returns
 unfolding regsResponded interruptedBy
 returns c =
     let r = c .before .before .before .before .args .regs in
-    c .no-seek .ensures ∙ sym (ap (λ (s : Seek). interruptedBy (r .drive .cylinder) (noSeek (r .setting .machine) (r .drive .cylinder)) r s) (c .before .enum-told .given .1))
+    c .no-seek .ensures ∙ sym (ap (λ (s : Seek). interruptedBy (r .drive .cylinder) (noSeek (settingOf (r .setting) .machine) (r .drive .cylinder)) r s) (c .before .enum-told .given .1))
 
 returns-2 : tie.Need-returns-2
 unfolding regsResponded interruptedBy
 returns-2 c =
     let r = c .before .before .before .before .before .args .regs in
-    c .reply2 .ensures ∙ simp (c .before .moved .ensures) (sym (ap (λ (s : Seek). interruptedBy (r .drive .cylinder) (noSeek (r .setting .machine) (r .drive .cylinder)) r s) (c .before .before .enum-told2 .given .1)))
+    c .reply2 .ensures ∙ simp (c .before .moved .ensures) (sym (ap (λ (s : Seek). interruptedBy (r .drive .cylinder) (noSeek (settingOf (r .setting) .machine) (r .drive .cylinder)) r s) (c .before .before .enum-told2 .given .1)))
 
 returns-3 : tie.Need-returns-3
 unfolding regsResponded interruptedBy
 returns-3 c =
     let r = c .before .before .before .before .args .regs in
-    c .no-seek2 .ensures ∙ sym (ap (λ (s : Seek). interruptedBy (r .drive .cylinder) (noSeek (r .setting .machine) (r .drive .cylinder)) r s) (c .before .enum-told3 .given .1))
+    c .no-seek2 .ensures ∙ sym (ap (λ (s : Seek). interruptedBy (r .drive .cylinder) (noSeek (settingOf (r .setting) .machine) (r .drive .cylinder)) r s) (c .before .enum-told3 .given .1))
 
 pub sense-interrupt-spec : {M : Type 1} → statement M
 sense-interrupt-spec =

@@ -4,6 +4,7 @@ use Rattle.sending.proofs.Sends.{wrong-length, wrong-numbers, write-wro
 use borrow.Author.Needs.{needs}
 use Rattle.sending.proofs.write.write_cmd.Statement.{statement}
 use Rattle.sending.proofs.write.write_cmd.Tie as tie
+use Rattle.registers.specs.Boxes.{settingOf}
 
 refused-requires : tie.Need-refused-requires
 refused-requires c κs = search needs
@@ -37,7 +38,7 @@ data-byte-requires c κs =
     let impossible-in = c .before .before .before .before .before .impossible-in in
     let if2 = c .before .before .before .before .if2 in
     let if3 = c .before .before .before .if3 in
-    (if1 .left, taken-few (args .regs .setting) (args .regs .write) (possible (args .regs) (possible-in (args .transfer .now) (args .regs) (sym (impossible-in .ensures) ∙ if2 .left)) .write-in) (if3 .taken))
+    (if1 .left, taken-few (settingOf (args .regs .setting)) (args .regs .write) (possible (args .regs) (possible-in (args .transfer .now) (args .regs) (sym (impossible-in .ensures) ∙ if2 .left)) .write-in) (if3 .taken))
 
 same-length-2 : tie.Need-same-length-2
 same-length-2 c = search needs

@@ -13,7 +13,7 @@ returns c = simp (sym (c .before .impossible .ensures), c .if1 .taken)
 
 returns-2 : tie.Need-returns-2
 unfolding settingIn
-returns-2 c = simp (sym (c .before .before .impossible .ensures), c .before .if1 .left)
+returns-2 c = simp (sym (c .before .impossible .ensures), c .if1 .left)
 
 pub setting-spec : {M : Type 1} → statement M
 setting-spec = tie.close (tie.spec impossible-requires returns returns-2)

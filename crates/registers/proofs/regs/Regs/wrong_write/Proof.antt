@@ -2,7 +2,7 @@ use mathlib.Core.Path.{sym, ap, _∙_}
 use Prim.Native.Nat.{_≤_, _<_}
 use native.Mathlib.Omega.{arith}
 use borrow.Author.Tests.{not-true, not-false}
-use Rattle.registers.specs.Boxes.{wholeOf}
+use Rattle.registers.specs.Boxes.{settingOf, wholeOf}
 use Rattle.registers.specs.View.{goalOf, unknownTo}
 use Rattle.registers.proofs.Numbers.{write-off, write-full, write-drive, write-rest}
 use borrow.Author.Needs.{needs}
@@ -10,7 +10,7 @@ use Rattle.registers.proofs.regs.Regs.wrong_write.Statement.{statement}
 use Rattle.registers.proofs.regs.Regs.wrong_write.Tie as tie
 
 returns : tie.Need-returns
-returns c = write-off (c .before .before .before .args .self .setting) (c .before .before .before .args .self .write) (not-true _ (c .if1 .taken))
+returns c = write-off (settingOf (c .before .before .before .args .self .setting)) (c .before .before .before .args .self .write) (not-true _ (c .if1 .taken))
 
 goal-requires : tie.Need-goal-requires
 goal-requires c κs = search needs
@@ -25,7 +25,7 @@ returns-2 : tie.Need-returns-2
 returns-2 c =
     let self = c .before .before .before .before .before .before .before .args .self in
     let full : wholeOf (goalOf (self .write)) ≤ self .write .taken = omega (arith, c .before .before .whole .ensures .0 ∙ ap wholeOf (c .before .before .before .goal .ensures), c .if2 .taken) in
-    write-full (self .setting) (self .write) (not-false _ (c .before .before .before .before .if1 .left)) full
+    write-full (settingOf (self .setting)) (self .write) (not-false _ (c .before .before .before .before .if1 .left)) full
 
 fitted-requires : tie.Need-fitted-requires
 fitted-requires c κs = search needs
@@ -35,19 +35,19 @@ returns-3 c =
     let self = c .before .before .before .before .before .before .before .before .before .args .self in
     let below : self .write .taken < wholeOf (goalOf (self .write)) =
     omega (arith, c .before .before .before .before .whole .ensures .0 ∙ ap wholeOf (c .before .before .before .before .before .goal .ensures), c .before .before .if2 .left) in
-    write-drive (self .setting) (self .write) (not-false _ (c .before .before .before .before .before .before .if1 .left)) below (sym (c .before .fitted .ensures) ∙ not-true _ (c .if3 .taken))
+    write-drive (settingOf (self .setting)) (self .write) (not-false _ (c .before .before .before .before .before .before .if1 .left)) below (sym (c .before .fitted .ensures) ∙ not-true _ (c .if3 .taken))
 
 unknown-to-requires : tie.Need-unknown-to-requires
 unknown-to-requires c κs = search needs
 
 returns-4 : tie.Need-returns-4
 returns-4 c =
-    let self = c .before .before .before .before .before .before .before .before .before .before .before .args .self in
+    let self = c .before .before .before .before .before .before .before .before .before .before .args .self in
     let below : self .write .taken < wholeOf (goalOf (self .write)) =
-    omega (arith, c .before .before .before .before .before .before .whole .ensures .0 ∙ ap wholeOf (c .before .before .before .before .before .before .before .goal .ensures), c .before .before .before .before .if2 .left) in
-    let fits = sym (c .before .before .before .fitted .ensures) ∙ not-false _ (c .before .before .if3 .left) in
-    c .unknown-to .ensures ∙ ap (unknownTo (self .setting .machine)) (c .before .before .before .before .before .before .before .goal .ensures)
-    ∙ write-rest (self .setting) (self .write) (not-false _ (c .before .before .before .before .before .before .before .before .if1 .left)) below fits
+    omega (arith, c .before .before .before .before .before .whole .ensures .0 ∙ ap wholeOf (c .before .before .before .before .before .before .goal .ensures), c .before .before .before .if2 .left) in
+    let fits = sym (c .before .before .fitted .ensures) ∙ not-false _ (c .before .if3 .left) in
+    c .unknown-to .ensures ∙ ap (unknownTo (settingOf (self .setting) .machine)) (c .before .before .before .before .before .before .goal .ensures)
+    ∙ write-rest (settingOf (self .setting)) (self .write) (not-false _ (c .before .before .before .before .before .before .before .if1 .left)) below fits
 
 pub wrong-write-spec : {M : Type 1} → statement M
 wrong-write-spec =
