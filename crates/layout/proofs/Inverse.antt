@@ -10,15 +10,11 @@ use lib.Dec.{eqb, leb}
 use borrow.Author.Tests.{leb-true}
 use Rattle.fields.specs.Bytes.{byteAt, numberAt}
 use Rattle.fields.proofs.Tests.{and-fst, and-snd}
-use Rattle.registers.specs.declared.regs.Goal.{Goal}
-use Rattle.registers.specs.declared.regs.Goal.the-variants.{IntoSector, IntoTrack}
 use Rattle.registers.specs.declared.regs.Regs.{Regs}
 use Rattle.registers.specs.declared.regs.Seek.{Seek}
 use Rattle.registers.specs.declared.regs.Seek.the-variants.{Idle, Running, Done}
-use Rattle.layout.specs.Layout.{controllerLength, flagByte, seekByte, machineByte, settingByte, kindByte, goalBytes, partFor, numbersFor}
-use Rattle.layout.specs.Layout.{flagAt, seekAt, machineIf, settingAt, goalIf, regsAt, heldAt, formed, Fitting}
+use Rattle.layout.specs.Layout.{controllerLength, flagByte, seekByte, partFor, numbersFor, flagAt, seekAt, regsAt, heldAt, formed, Fitting}
 use Rattle.layout.proofs.Images.{formed-long}
-use Rattle.registers.specs.Boxes.{Machine, Rust, DataSheet, Setting}
 
 -- ---- one by one
 
@@ -30,17 +26,6 @@ pub seek-back : (s : Seek) → seekAt (seekByte s) ≡ s
 seek-back Idle = refl
 seek-back Running = refl
 seek-back Done = refl
-
-pub setting-back : (x : Setting) → settingAt (settingByte x) ≡ x
-setting-back x = go (x .machine)
-  where
-    go : (m : Machine) → record { machine = machineIf (flagAt (machineByte m)) } ≡ record { machine = m }
-    go Rust = refl
-    go DataSheet = refl
-
-pub goal-back : (g : Goal) → let l : List ℕ = goalBytes g in goalIf (flagAt (kindByte g)) (byteAt l 0) (byteAt l 1) (byteAt l 2) (byteAt l 3) ≡ g
-goal-back (IntoSector id) = refl
-goal-back (IntoTrack x) = refl
 
 word-back : (n : ℕ) → n < 65536 → n % 256 + 256 * (n / 256 % 256 + 256 * 0) ≡ n
 word-back n h = omega arith
@@ -70,9 +55,15 @@ regs-back r rest f = λ i. record {
   lost = r .lost;
   motor = flag-back (r .motor) i;
   index = word-back (r .index) (f .index-fits) i;
-  write = record { on = flag-back (r .write .on) i; c1 = r .write .c1; goal = goal-back (r .write .goal) i; taken = word-back (r .write .taken) (f .taken-fits) i };
+  write = record {
+    on = flag-back (r .write .on) i;
+    c1 = r .write .c1;
+    track = flag-back (r .write .track) i;
+    target = r .write .target;
+    taken = word-back (r .write .taken) (f .taken-fits) i;
+  };
   drive = record { cylinder = r .drive .cylinder; seek = seek-back (r .drive .seek) i; disk = flag-back (r .drive .disk) i };
-  setting = setting-back (r .setting) i;
+  setting = r .setting;
 }
 
 -- and the bytes behind them are the held bytes
@@ -93,20 +84,6 @@ seek-kept (suc zero) h = refl
 seek-kept (suc (suc zero)) h = refl
 seek-kept (suc (suc (suc b))) h = absurd (omega (arith, h))
 
-pub setting-kept : (b : ℕ) → b ≤ 1 → settingByte (settingAt b) ≡ b
-setting-kept zero h = refl
-setting-kept (suc zero) h = refl
-setting-kept (suc (suc b)) h = absurd (omega (arith, h))
-
-pub kind-kept : (b i j k m : ℕ) → b ≤ 1 → kindByte (goalIf (flagAt b) i j k m) ≡ b
-kind-kept zero i j k m h = refl
-kind-kept (suc zero) i j k m h = refl
-kind-kept (suc (suc b)) i j k m h = absurd (omega (arith, h))
-
-pub goal-kept : (f : Bool) (i j k m : ℕ) → goalBytes (goalIf f i j k m) ≡ i ∷ j ∷ k ∷ m ∷ []
-goal-kept true i j k m = refl
-goal-kept false i j k m = refl
-
 -- a list of so many numbers at least is its first ones, one by one, and the rest
 front-is : (n k : ℕ) (x : List ℕ) → k + n ≤ length x → partFor n x k (drop (k + n) x) ≡ drop k x
 front-is zero k x h = let e : k + 0 ≡ k = omega arith in rw e
@@ -121,8 +98,7 @@ record Flags (l : List ℕ) : Type 0 where
   pub on : byteAt l 31 ≤ 1
   pub seek : byteAt l 40 ≤ 2
   pub disk : byteAt l 41 ≤ 1
-  pub setting : byteAt l 42 ≤ 1
-  pub kind : byteAt l 43 ≤ 1
+  pub track : byteAt l 43 ≤ 1
 
 flags : (l : List ℕ) → formed l ≡ true → Flags l
 unfolding formed
@@ -138,8 +114,7 @@ flags l e =
       on = leb-true _ _ (and-fst (at 31 1) _ p2);
       seek = leb-true _ _ (and-fst (at 40 2) _ p3);
       disk = leb-true _ _ (and-fst (at 41 1) _ p4);
-      setting = leb-true _ _ (and-fst (at 42 1) _ p5);
-      kind = leb-true _ _ (and-snd (at 42 1) _ p5);
+      track = leb-true _ _ (and-snd (at 42 1) _ p5);
     }
 
 -- bytes that a controller has are those of the registers that are read from them
@@ -178,7 +153,6 @@ module _ (l : List ℕ) (b : (k : ℕ) → byteAt l k < 256) where
       ∷ four0 19 i ∷ four1 19 i ∷ four2 19 i ∷ four3 19 i
       ∷ four0 23 i ∷ four1 23 i ∷ four2 23 i ∷ four3 23 i
       ∷ byteAt l 27 ∷ flag-kept (byteAt l 28) (f .motor) i ∷ two0 29 i ∷ two1 29 i
-      ∷ flag-kept (byteAt l 31) (f .on) i ∷ byteAt l 32 ∷ partFor 4 (goal-kept (flagAt (byteAt l 43)) (byteAt l 33) (byteAt l 34) (byteAt l 35) (byteAt l 36) i) 0 (two0 37 i ∷ two1 37 i
-      ∷ byteAt l 39 ∷ seek-kept (byteAt l 40) (f .seek) i ∷ flag-kept (byteAt l 41) (f .disk) i ∷ setting-kept (byteAt l 42) (f .setting) i
-      ∷ kind-kept (byteAt l 43) (byteAt l 33) (byteAt l 34) (byteAt l 35) (byteAt l 36) (f .kind) i ∷ heldAt l))))
+      ∷ flag-kept (byteAt l 31) (f .on) i ∷ byteAt l 32 ∷ byteAt l 33 ∷ byteAt l 34 ∷ byteAt l 35 ∷ byteAt l 36 ∷ two0 37 i ∷ two1 37 i
+      ∷ byteAt l 39 ∷ seek-kept (byteAt l 40) (f .seek) i ∷ flag-kept (byteAt l 41) (f .disk) i ∷ byteAt l 42 ∷ flag-kept (byteAt l 43) (f .track) i ∷ heldAt l)))
       ∙ front-is 44 0 l (omega (arith, formed-long l e))

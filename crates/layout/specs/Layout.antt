@@ -10,14 +10,11 @@ use Rattle.fields.specs.Capacities.{mostHeld}
 use Rattle.fields.specs.Refusals.{Result, good, need}
 use Rattle.fields.specs.declared.refusal.Refusal.the-variants.{BadController}
 use Rattle.registers.specs.declared.regs.Regs.{Regs}
-use Rattle.registers.specs.declared.regs.Goal.{Goal}
-use Rattle.registers.specs.declared.regs.Goal.the-variants.{IntoSector, IntoTrack}
 use Rattle.registers.specs.declared.regs.Pending.{Pending}
 use Rattle.registers.specs.declared.regs.Drive.{Drive}
 use Rattle.registers.specs.declared.regs.Seek.{Seek}
 use Rattle.registers.specs.declared.regs.Seek.the-variants.{Idle, Running, Done}
 use Rattle.floppy.specs.declared.Floppy.{Floppy}
-use Rattle.registers.specs.Boxes.{Machine, Rust, DataSheet, Setting}
 
 -- how many bytes the numbers take, and the whole controller
 abbrev pub numbersLength : ℕ
@@ -39,23 +36,6 @@ seekByte Idle = 0
 seekByte Running = 1
 seekByte Done = 2
 
--- the machine is bit 0 of the setting (2026-06): Rust 0, data sheet 1
-abbrev pub machineByte : Machine → ℕ
-machineByte Rust = 0
-machineByte DataSheet = 1
-
-abbrev pub settingByte : Setting → ℕ
-settingByte x = machineByte (x .machine)
-
--- what is written is 0 of a sector, 1 of a track; its numbers: c, h, r, n of the ID; or n, sectors, gap, filler of a Format (2026-06)
-abbrev pub kindByte : Goal → ℕ
-kindByte (IntoSector id) = 0
-kindByte (IntoTrack x) = 1
-
-abbrev pub goalBytes : Goal → List ℕ
-goalBytes (IntoSector id) = id .c ∷ id .h ∷ id .r ∷ id .n ∷ []
-goalBytes (IntoTrack x) = x .size ∷ x .sectors ∷ x .gap ∷ x .filler ∷ []
-
 -- a number in so many bytes, low byte first, before what follows it
 abbrev pub numberFor : ℕ → ℕ → List ℕ → List ℕ
 numberFor zero n rest = rest
@@ -74,18 +54,22 @@ commandFor r rest = partFor 9 (r .command) 0 (r .count ∷ partFor 7 (r .reply) 
 abbrev pub readingFor : Regs → List ℕ → List ℕ
 readingFor r rest = r .place ∷ r .fill ∷ numberFor 4 (r .from) (numberFor 4 (r .until) (r .lost ∷ rest))
 
--- the motor, the index, a write in progress, the drive, the setting and what is written, before what follows them
+-- the motor, the index, a write in progress, the drive, the setting and whether a write is a Format's (2026-06), before what follows them
 abbrev pub stateFor : Regs → List ℕ → List ℕ
 stateFor r rest =
     flagByte (r .motor)
     ∷ numberFor 2 (r .index) (flagByte (r .write .on)
     ∷ r .write .c1
-    ∷ partFor 4 (goalBytes (r .write .goal)) 0 (numberFor 2 (r .write .taken) (r .drive .cylinder
+    ∷ r .write .target .one
+    ∷ r .write .target .two
+    ∷ r .write .target .three
+    ∷ r .write .target .four
+    ∷ numberFor 2 (r .write .taken) (r .drive .cylinder
     ∷ seekByte (r .drive .seek)
     ∷ flagByte (r .drive .disk)
-    ∷ settingByte (r .setting)
-    ∷ kindByte (r .write .goal)
-    ∷ rest)))
+    ∷ r .setting
+    ∷ flagByte (r .write .track)
+    ∷ rest))
 
 -- the numbers, before what follows them
 unfoldable pub numbersFor : Regs → List ℕ → List ℕ
@@ -108,27 +92,14 @@ seekFrom false false = Idle
 abbrev pub seekAt : ℕ → Seek
 seekAt b = seekFrom (eqb b 1) (eqb b 2)
 
-abbrev pub machineIf : Bool → Machine
-machineIf false = Rust
-machineIf true = DataSheet
-
-abbrev pub settingAt : ℕ → Setting
-settingAt b = record { machine = machineIf (flagAt b) }
-
--- the setting of a number of which bit 0 is the machine; other bits mean nothing yet
-abbrev pub settingFrom : ℕ → Setting
-settingFrom n = settingAt (n % 2)
-
--- what is written, by its kind and its four numbers
-abbrev pub goalIf : Bool → ℕ → ℕ → ℕ → ℕ → Goal
-goalIf false i j k m = IntoSector (record { c = i; h = j; r = k; n = m })
-goalIf true i j k m = IntoTrack (record { size = i; sectors = j; gap = k; filler = m })
-
-abbrev pub goalAt : List ℕ → Goal
-goalAt l = goalIf (flagAt (byteAt l 43)) (byteAt l 33) (byteAt l 34) (byteAt l 35) (byteAt l 36)
-
 abbrev pub writeAt : List ℕ → Pending
-writeAt l = record { on = flagAt (byteAt l 31); c1 = byteAt l 32; goal = goalAt l; taken = numberAt 2 l 37 }
+writeAt l = record {
+  on = flagAt (byteAt l 31);
+  c1 = byteAt l 32;
+  track = flagAt (byteAt l 43);
+  target = record { one = byteAt l 33; two = byteAt l 34; three = byteAt l 35; four = byteAt l 36 };
+  taken = numberAt 2 l 37;
+}
 
 abbrev pub driveAt : List ℕ → Drive
 driveAt l = record { cylinder = byteAt l 39; seek = seekAt (byteAt l 40); disk = flagAt (byteAt l 41) }
@@ -147,14 +118,14 @@ regsAt l = record {
   index = numberAt 2 l 29;
   write = writeAt l;
   drive = driveAt l;
-  setting = settingAt (byteAt l 42);
+  setting = byteAt l 42;
 }
 
 -- the held bytes
 abbrev pub heldAt : List ℕ → List ℕ
 heldAt l = drop numbersLength l
 
--- bytes that a controller has: so many, flags, setting and kind up to 1, a seek state up to 2
+-- bytes that a controller has: so many, flags and the setting up to 1, a seek state up to 2
 unfoldable pub formed : List ℕ → Bool
 formed l =
     eqb (length l) controllerLength

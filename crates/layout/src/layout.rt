@@ -1,22 +1,17 @@
 // The controller as bytes that the host lends: 44 bytes of numbers, then the 1,024 held bytes. docs/HOST.md has the layout.
 use fields::HELD;
-use fields::SectorId;
 use fields::word_at;
 use registers::Drive;
-use registers::Goal;
-use registers::Machine;
 use registers::Pending;
 use registers::Regs;
 use registers::Seek;
-use registers::Setting;
-use registers::Shape;
+use registers::Target;
 ghost use mathlib.Core.Path.{_≡_};
 ghost use Prim.Native.Nat.{_+_, _≤_};
 ghost use mathlib.Core.List.{[]};
 ghost use lib.ListN.{length};
 ghost use Rattle.fields.specs.Bytes.{numberAt};
-ghost use Rattle.layout.specs.Layout.{controllerLength, flagByte, seekByte, settingByte, kindByte, goalBytes, partFor, commandFor, readingFor};
-ghost use Rattle.layout.specs.Layout.{stateFor, numbersFor, settingAt, goalIf};
+ghost use Rattle.layout.specs.Layout.{controllerLength, flagByte, seekByte, partFor, commandFor, readingFor, stateFor, numbersFor};
 ghost use Rattle.layout.specs.Layout.{flagAt, seekAt, writeAt, driveAt, regsAt, heldAt, formed};
 
 // How many bytes the numbers take; the held bytes stand behind them.
@@ -55,66 +50,6 @@ pub fn seek_byte(s: Seek) -> u8
         Seek::Idle => 0,
         Seek::Running => 1,
         Seek::Done => 2,
-    }
-}
-
-// The machine is bit 0 of a setting.
-pub fn setting_at(b: u8) -> Setting
-    ensures { λ r. ⌜ r ≡ settingAt b ⌝ }
-{
-    if flag_at(b) {
-        return Setting {
-            machine: Machine::DataSheet,
-        };
-    }
-    Setting {
-        machine: Machine::Rust,
-    }
-}
-
-pub fn setting_byte(s: Setting) -> u8
-    ensures { λ r. ⌜ r ≡ settingByte s ⌝ }
-{
-    if s.is_rust() { 0 } else { 1 }
-}
-
-// What is written, by its kind and its four numbers, and these.
-pub fn goal_of(track: bool, i: u8, j: u8, k: u8, m: u8) -> Goal
-    ensures { λ r. ⌜ r ≡ goalIf track i j k m ⌝ }
-{
-    if track {
-        let shape = Shape {
-            size: i,
-            sectors: j,
-            gap: k,
-            filler: m,
-        };
-        return Goal::IntoTrack(shape);
-    }
-    let id = SectorId {
-        c: i,
-        h: j,
-        r: k,
-        n: m,
-    };
-    Goal::IntoSector(id)
-}
-
-pub fn kind_byte(g: Goal) -> u8
-    ensures { λ r. ⌜ r ≡ kindByte g ⌝ }
-{
-    match g {
-        Goal::IntoSector(_) => 0,
-        Goal::IntoTrack(_) => 1,
-    }
-}
-
-pub fn goal_bytes(g: Goal) -> [u8; 4]
-    ensures { λ b. ⌜ b ≡ goalBytes g ⌝ }
-{
-    match g {
-        Goal::IntoSector(id) => [id.c, id.h, id.r, id.n],
-        Goal::IntoTrack(x) => [x.size, x.sectors, x.gap, x.filler],
     }
 }
 
@@ -170,11 +105,17 @@ fn write_at(c: &[u8]) -> Pending
     requires { ⌜ length (now c) ≡ controllerLength ⌝ }
     ensures { λ r. ⌜ r ≡ writeAt (now (c .entry)) ⌝ }
 {
-    let goal = goal_of(flag_at(c[43]), c[33], c[34], c[35], c[36]);
+    let target = Target {
+        one: c[33],
+        two: c[34],
+        three: c[35],
+        four: c[36],
+    };
     Pending {
         on: flag_at(c[31]),
         c1: c[32],
-        goal,
+        track: flag_at(c[43]),
+        target,
         taken: word_at(c, 37) as u16,
     }
 }
@@ -212,7 +153,7 @@ pub fn decode(c: &[u8]) -> Regs
         index: word_at(c, 29) as u16,
         write,
         drive,
-        setting: setting_at(c[42]),
+        setting: c[42],
     }
 }
 
@@ -268,8 +209,7 @@ fn state_bytes(r: Regs) -> [u8; 16]
 {
     let i = r.index;
     let p = r.write;
-    let g = p.goal;
-    let d = goal_bytes(g);
+    let d = p.target;
     let t = p.taken;
     let v = r.drive;
     let s = v.seek;
@@ -279,17 +219,17 @@ fn state_bytes(r: Regs) -> [u8; 16]
         (i / 256 % 256) as u8,
         flag_byte(p.on),
         p.c1,
-        d[0],
-        d[1],
-        d[2],
-        d[3],
+        d.one,
+        d.two,
+        d.three,
+        d.four,
         (t % 256) as u8,
         (t / 256 % 256) as u8,
         v.cylinder,
         seek_byte(s),
         flag_byte(v.disk),
-        setting_byte(r.setting),
-        kind_byte(g),
+        r.setting,
+        flag_byte(p.track),
     ]
 }
 

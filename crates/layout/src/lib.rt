@@ -6,13 +6,8 @@ pub use layout::NUMBERS;
 pub use layout::flag_at;
 pub use layout::flag_byte;
 pub use layout::formed;
-pub use layout::goal_bytes;
-pub use layout::goal_of;
-pub use layout::kind_byte;
 pub use layout::seek_at;
 pub use layout::seek_byte;
-pub use layout::setting_at;
-pub use layout::setting_byte;
 
 // For the crate above only: they have a `requires`.
 pub use layout::decode;
