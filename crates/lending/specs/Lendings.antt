@@ -109,9 +109,9 @@ pub record Readable (l : Lending) : Type 0 where
   pub form : formed (l .controller) ≡ true
   pub possible : impossibleIn (l .transfer) (regsAt (l .controller)) ≡ false
 
--- the bytes that `floppy_new` leaves, with buffers lent
-abbrev pub newLending : List ℕ → List ℕ → List ℕ → Lending
-newLending t b x = record { controller = floppyBytes newFloppy; table = t; bytes = b; transfer = x }
+-- the bytes that `floppy_new_with` leaves, with buffers lent
+abbrev pub newLending : ℕ → List ℕ → List ℕ → List ℕ → Lending
+newLending n t b x = record { controller = floppyBytes (newFloppy n); table = t; bytes = b; transfer = x }
 
 -- ---- Words of demand 3
 

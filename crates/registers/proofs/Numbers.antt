@@ -2,6 +2,7 @@
 use mathlib.Core.Path.{_≡_, refl, sym, ap, _∙_}
 use Prim.Native.Nat.{ℕ, _*_, _≤_, _<_}
 use native.Mathlib.Omega.{arith}
+use native.Mathlib.Nat.{min-le-right, min-eq-left}
 use mathlib.Core.Bool.{Bool, true, false, not, _&&_, _||_}
 use mathlib.Core.List.{List}
 use lib.ListN.{length, getD}
@@ -25,7 +26,7 @@ use Rattle.codes.proofs.Rows.{bytes-range}
 use Rattle.store.proofs.Checks.{transfer-in}
 use Rattle.registers.specs.Boxes.{machineIf, wholeOf, fitted}
 use Rattle.registers.specs.Settle.{trackIn, targetIn}
-use Rattle.registers.specs.Possible.{Possible, Few}
+use Rattle.registers.specs.Possible.{Possible}
 
 pub neither : (a b : Bool) → (a || b) ≡ false → (a ≡ false) × (b ≡ false)
 neither true b e = never (cc)
@@ -69,9 +70,9 @@ rust-by true = refl
 rust-by false = refl
 
 -- how many bytes are written at the most
-pub whole-most : (g : Goal) → Few g → wholeOf g ≤ mostHeld
-whole-most (IntoSector id) f = size-most (id .n)
-whole-most (IntoTrack x) f = omega (arith, f)
+pub whole-most : (g : Goal) → wholeOf g ≤ mostHeld
+whole-most (IntoSector id) = size-most (id .n)
+whole-most (IntoTrack x) = omega (arith, min-le-right (x .sectors) 255)
 
 -- what starts is what is then written
 pub goal-kept : (g : Goal) → goalIf (trackIn g) (targetIn g) ≡ g
@@ -83,7 +84,7 @@ pub sector-whole : (g : Goal) (id : SectorId) (n : ℕ) → g ≡ IntoSector id 
 sector-whole g id n e q = (q ∙ sym (ap wholeOf e), omega (arith, q, size-most (id .n)))
 
 pub track-whole : (g : Goal) (x : Shape) → g ≡ IntoTrack x → x .sectors < 256 → (4 * x .sectors ≡ wholeOf g) × (4 * x .sectors ≤ mostHeld)
-track-whole g x e h = (sym (ap wholeOf e), omega (arith, h))
+track-whole g x e h = (ap (λ (n : ℕ). 4 * n) (sym (min-eq-left {n = x .sectors} {m = 255} (omega (arith, h)))) ∙ sym (ap wholeOf e), omega (arith, h))
 
 -- a write that refusal 1 does not name: bytes are to come, and its drive is fitted
 module _ (s : Setting) (c1 : ℕ) (g : Goal) (n : ℕ) where
@@ -126,14 +127,8 @@ module _ (s : Setting) (p : Pending) where
       go true q = never (cc)
       go false q = refl
 
-  pub write-full : p .on ≡ true → wholeOf (goalOf p) ≤ p .taken → true ≡ wrongWrite s p
-  write-full q h = asked-of (p .on) true q (work-full s (p .c1) (goalOf p) (p .taken) h)
-
-  pub write-drive : p .on ≡ true → p .taken < wholeOf (goalOf p) → fitted (p .c1) ≡ false → true ≡ wrongWrite s p
-  write-drive q h e = asked-of (p .on) true q (work-drive s (p .c1) (goalOf p) (p .taken) h e)
-
-  pub write-rest : p .on ≡ true → p .taken < wholeOf (goalOf p) → fitted (p .c1) ≡ true → unknownTo (s .machine) (goalOf p) ≡ wrongWrite s p
-  write-rest q h e = asked-of (p .on) (unknownTo (s .machine) (goalOf p)) q (work-rest s (p .c1) (goalOf p) (p .taken) h e)
+  pub write-on : p .on ≡ true → wrongWork s (p .c1) (goalOf p) (p .taken) ≡ wrongWrite s p
+  write-on q = asked-of (p .on) (wrongWork s (p .c1) (goalOf p) (p .taken)) q refl
 
 -- a write in progress that refusal 1 does not name
 module _ (s : Setting) (p : Pending) (e : wrongWrite s p ≡ false) where

@@ -1,5 +1,5 @@
 -- The boxes that a controller has, and the changes that a byte sent to it can bring (01, "Status and data ports").
-use Prim.Native.Nat.{ℕ, _+_, _*_, _%_}
+use Prim.Native.Nat.{ℕ, _+_, _*_, _%_, min}
 use mathlib.Core.Bool.{Bool, true, false}
 use mathlib.Core.List.{List, [], _∷_, _++_}
 use mathlib.Core.Option.{Option, none, some}
@@ -65,10 +65,10 @@ pub record Drives : Type 0 where
   pub first : Bay
 
 -- what is written, the data of a sector or, for a Format, the IDs of a track (2026-06): how many bytes that takes, as the sector's n calls for, or
--- four for each ID
+-- four for each ID, of 255 at most
 abbrev pub wholeOf : Goal → ℕ
 wholeOf (IntoSector id) = sizeOf (id .n)
-wholeOf (IntoTrack x) = 4 * x .sectors
+wholeOf (IntoTrack x) = 4 * min (x .sectors) 255
 
 -- a write in progress: the command's second byte c1, what is written, and the bytes that are held so far
 pub record Writing : Type 0 where

@@ -6,12 +6,10 @@ use mathlib.Core.List.{List, [], _∷_}
 use lib.ListN.{length, getD}
 use Rattle.codes.specs.Table.{commandOf, bytesFor}
 use Rattle.registers.specs.declared.regs.Regs.{Regs}
-use Rattle.registers.specs.declared.regs.Goal.{Goal}
-use Rattle.registers.specs.declared.regs.Goal.the-variants.{IntoSector, IntoTrack}
 use Rattle.registers.specs.Boxes.{Setting}
 use Rattle.registers.specs.Boxes.{settingOf, Change, Clear, MoveTo, Turn, Start, Finish}
 use Rattle.registers.specs.Boxes.{Response, Stay, Reply, ReplyIfNone, Seeking, Interrupt, Serve}
-use Rattle.registers.specs.View.{goalOf, wrongWork, wrongWrite}
+use Rattle.registers.specs.View.{wrongWork, wrongWrite}
 
 -- numbers that refusal 1 does not name
 pub record Possible (r : Regs) : Type 0 where
@@ -39,16 +37,10 @@ pub record Unread (from until lost room : ℕ) : Type 0 where
   pub inside : until ≤ room
   pub few : lost ≤ 2
 
--- sectors of a Format as few as a byte can name
-abbrev pub Few : Goal → Type 0
-Few (IntoSector id) = Unit {0}
-Few (IntoTrack x) = x .sectors < 256
-
--- the index, the fill of a write and the sectors of a Format, as small as their types say
-pub record Small (index taken : ℕ) (goal : Goal) : Type 0 where
+-- the index and the fill of a write, as small as their types say
+pub record Small (index taken : ℕ) : Type 0 where
   pub index-fits : index < 65536
   pub taken-fits : taken < 65536
-  pub few : Few goal
 
 -- arrays and numbers as their types say, numbers that are possible, and unread data inside the transfer room
 pub record Lawful (r : Regs) (room : ℕ) : Type 0 where
@@ -56,7 +48,7 @@ pub record Lawful (r : Regs) (room : ℕ) : Type 0 where
   pub reply : Replying (r .reply) (r .place) (r .fill)
   pub unread : Unread (r .from) (r .until) (r .lost) room
   pub write : wrongWrite (settingOf (r .setting)) (r .write) ≡ false
-  pub small : Small (r .index) (r .write .taken) (goalOf (r .write))
+  pub small : Small (r .index) (r .write .taken)
 
 -- ---- What changes and responses must be
 
@@ -65,7 +57,7 @@ abbrev pub Fair : Setting → Change → Type 0
 Fair s Clear = Unit {0}
 Fair s (MoveTo c) = Unit {0}
 Fair s Turn = Unit {0}
-Fair s (Start c1 goal) = (wrongWork s c1 goal 0 ≡ false) × Few goal
+Fair s (Start c1 goal) = wrongWork s c1 goal 0 ≡ false
 Fair s Finish = Unit {0}
 
 abbrev pub AllFair : Setting → List Change → Type 0

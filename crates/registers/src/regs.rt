@@ -14,7 +14,7 @@ ghost use lib.Dec.{leb};
 ghost use Rattle.fields.specs.Capacities.{mostHeld};
 ghost use Rattle.codes.specs.Table.{commandOf, bytesFor};
 ghost use Rattle.registers.specs.Boxes.{settingOf, wholeOf, silent, serves, fitted, seven, Add, Hold, Clear, Turn, Start, Finish, MoveTo};
-ghost use Rattle.registers.specs.View.{goalOf, isRust, unknownTo, impossible, wrongWrite};
+ghost use Rattle.registers.specs.View.{goalOf, isRust, unknownTo, impossible, wrongWork, wrongWrite};
 ghost use Rattle.registers.specs.Settle.{accepted, declined, driveNamed, replied, regsWithDrive, noPending, trackIn, targetIn, pendingWith, regsTaken, regsChanged, kept};
 
 // The state of the last seek.
@@ -229,6 +229,20 @@ impl Pending {
         Goal::IntoSector(id)
     }
 
+    // Numbers that it does not have, with a setting, while it is in progress.
+    pub fn wrong(self, setting: u8) -> bool
+        ensures { λ r. ⌜ r ≡ wrongWork (settingOf setting) (self .c1) (goalOf self) (self .taken) ⌝ }
+    {
+        let goal = self.goal();
+        if goal.whole() <= self.taken as usize {
+            return true;
+        }
+        if !fitted(self.c1) {
+            return true;
+        }
+        goal.unknown_to(setting)
+    }
+
     // In progress or not, with so many bytes held.
     fn with(self, on: bool, taken: u16) -> Self
         ensures { λ r. ⌜ r ≡ pendingWith on taken self ⌝ }
@@ -264,14 +278,7 @@ impl Regs {
         if !p.on {
             return false;
         }
-        let goal = p.goal();
-        if goal.whole() <= p.taken as usize {
-            return true;
-        }
-        if !fitted(p.c1) {
-            return true;
-        }
-        goal.unknown_to(self.setting)
+        p.wrong(self.setting)
     }
 
     // Numbers that no controller has.

@@ -12,7 +12,7 @@ use Rattle.fields.specs.Model.{Each}
 use Rattle.fields.specs.declared.refusal.Refusal.the-variants.{BadController, BadStore}
 use Rattle.store.specs.Store.{transferRoom}
 use Rattle.codes.specs.Table.{maskRows, rows, commandBy, commandOf}
-use Rattle.registers.specs.Boxes.{World}
+use Rattle.registers.specs.Boxes.{settingOf, World}
 use Rattle.registers.specs.Ports.{polls}
 use Rattle.registers.specs.View.{roomsOf, insideOf, frontOf, impossible, impossibleIn}
 use Rattle.registers.proofs.Numbers.{possible, possible-in}
@@ -59,28 +59,28 @@ calls-never-2 (e ∷ es) k s q h = (never-2 k s h e, calls-never-2 es (called e 
 
 -- ---- from a new controller
 
-module _ (t b x : List ℕ) where
+module _ (n : ℕ) (t b x : List ℕ) where
   -- A new controller is one.
-  pub new-sound : Sound (newHost t b x)
+  pub new-sound : Sound (newHost n t b x)
   unfolding newFloppy impossible impossibleIn commandOf commandBy rows maskRows
   new-sound = record { nine = refl; seven = refl; held = length-replicate {A = ℕ} mostHeld 0; index-fits = omega arith; taken-fits = omega arith; possible = le-ltb (transferRoom x) 0 (omega arith) }
 
-  new-stage : newStage (roomsOf b x) ≡ stageOf (newHost t b x)
-  new-stage i = record { rooms = roomsOf b x; world = sym (new-seen t b x) i }
+  new-stage : newStage (settingOf n) (roomsOf b x) ≡ stageOf (newHost n t b x)
+  new-stage i = record { rooms = roomsOf b x; world = sym (new-seen n t b x) i }
 
   module _ (es : List Event) where
     -- Over any calls from a new controller, what they answer and leave is what the machine answers and leaves from a new world.
-    pub new-run : run acted es (newStage (roomsOf b x)) ≡ record { answers = run called es (newHost t b x) .answers; end = stageOf (run called es (newHost t b x) .end) }
-    new-run = ap (run acted es) new-stage ∙ calls-run es (newHost t b x) new-sound
+    pub new-run : run acted es (newStage (settingOf n) (roomsOf b x)) ≡ record { answers = run called es (newHost n t b x) .answers; end = stageOf (run called es (newHost n t b x) .end) }
+    new-run = ap (run acted es) new-stage ∙ calls-run es (newHost n t b x) new-sound
 
     -- Refusal 1 never comes.
-    pub new-tame : Each (λ (a : Answer). a ≡ denied BadController → ⊥) (run called es (newHost t b x) .answers)
-    new-tame = calls-tame es (newHost t b x) new-sound
+    pub new-tame : Each (λ (a : Answer). a ≡ denied BadController → ⊥) (run called es (newHost n t b x) .answers)
+    new-tame = calls-tame es (newHost n t b x) new-sound
 
     -- Nor does refusal 2, if every disk that is put in is one that its store holds.
-    pub new-never-2 : Each PutsUnbroken es → Each (λ (a : Answer). a ≡ denied BadStore → ⊥) (run called es (newHost t b x) .answers)
+    pub new-never-2 : Each PutsUnbroken es → Each (λ (a : Answer). a ≡ denied BadStore → ⊥) (run called es (newHost n t b x) .answers)
     unfolding newFloppy insideOf
-    new-never-2 q = calls-never-2 es (newHost t b x) new-sound q tt
+    new-never-2 q = calls-never-2 es (newHost n t b x) new-sound q tt
 
 -- ---- lost bytes
 

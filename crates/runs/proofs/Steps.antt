@@ -9,10 +9,9 @@ use lib.Seq.{slice, take-append-le}
 use borrow.Author.Tests.{eqb-false}
 use Rattle.fields.specs.Capacities.{mostHeld, mostTransfer}
 use Rattle.fields.specs.Refusals.{Result, refused, good, after}
-use Rattle.fields.specs.Model.{sizeOf, Disk}
+use Rattle.fields.specs.Model.{Disk}
 use Rattle.fields.specs.declared.refusal.Refusal.{Refusal}
 use Rattle.fields.specs.declared.refusal.Refusal.the-variants.{BadController, BadStore}
-use Rattle.fields.proofs.Sizes.{size-most}
 use Rattle.fields.proofs.Tests.{never}
 use Rattle.store.specs.Store.{roomOf, transferRoom}
 use Rattle.store.specs.declared.answer.Done.{Done}
@@ -22,11 +21,11 @@ use Rattle.codes.specs.declared.command.Command.{Command}
 use Rattle.codes.specs.Table.{commandOf, bytesFor}
 use Rattle.registers.specs.declared.regs.Regs.{Regs}
 use Rattle.registers.specs.declared.regs.Byte.the-variants as byte
-use Rattle.registers.specs.Boxes.{Rooms, Inside, World, Add, Hold, Change, Clear, Finish, Effect, Sent, named, silent, Holds}
-use Rattle.registers.specs.View.{slotIf, roomsOf, slotOf, drivesOf, writingOf, insideOf, frontOf, impossibleIn}
+use Rattle.registers.specs.Boxes.{settingOf, Setting, Rooms, wholeOf, Inside, World, Add, Hold, Change, Clear, Finish, Effect, Sent, named, silent, Holds}
+use Rattle.registers.specs.View.{slotIf, roomsOf, slotOf, drivesOf, goalOf, writingOf, insideOf, frontOf, impossibleIn}
 use Rattle.registers.specs.Settle.{regsTaken, heldTaken, regsChanged, regsAll, regsResponded, regsOf}
 use Rattle.registers.specs.Calls.{statusRead, dataRead, motorSet, diskSet}
-use Rattle.registers.proofs.Numbers.{possible, possible-in, taken-few, count-few}
+use Rattle.registers.proofs.Numbers.{possible, possible-in, whole-most, taken-few, count-few}
 use Rattle.registers.proofs.Kept.{lawful-so, so-lawful, lawful-wider, kept-status, kept-read, kept-motor, kept-disk, kept-part, kept-last, kept-held, kept-ended, kept-changes, kept-response}
 use Rattle.registers.proofs.Seen.{status-seen, read-seen, motor-seen, disk-seen, motor-told, track-told}
 use Rattle.commands.specs.Commands.{obeyed, written}
@@ -57,6 +56,9 @@ module _ (r : Regs) (b : ℕ) (h t d x : List ℕ) (ok : impossibleIn x r ≡ fa
   abbrev S : Rooms
   S = roomsOf d x
 
+  abbrev X : Setting
+  X = settingOf (r .setting)
+
   abbrev Room : ℕ
   Room = transferRoom x
 
@@ -83,22 +85,22 @@ module _ (r : Regs) (b : ℕ) (h t d x : List ℕ) (ok : impossibleIn x r ≡ fa
   clean = store-clean (r .drive .disk) t d
 
   command-keeps : (v : Bool) (k : Command) (l : List ℕ) → (v ≡ false → r .count + 1 ≡ bytesFor (commandOf (getD (set (r .command) (r .count) b) 0 0)) → ⊥)
-      → Keeps (sends (Add b) (commandIf v S k l (drivesOf r t d) (r .index)))
+      → Keeps (sends (Add b) (commandIf v X S k l (drivesOf r t d) (r .index)))
   unfolding commandIf
   command-keeps false k l q = unfold regsAll regsResponded in (kept-part r Room w b (q refl), (long, (tt, tt)))
-  command-keeps true k l q = go (obeyed S k l (drivesOf r t d) (r .index)) (obeyed-proper Bad S k l (drivesOf r t d) (r .index) clean)
+  command-keeps true k l q = go (obeyed X S k l (drivesOf r t d) (r .index)) (obeyed-proper X Bad S k l (drivesOf r t d) (r .index) clean)
     where
-      go : (e : Result Effect) → Proper Bad S e → Keeps (sends (Add b) (clearing e))
+      go : (e : Result Effect) → Proper X Bad S e → Keeps (sends (Add b) (clearing e))
       go (refused why) p = p
       go (good e) p =
           let l = kept-changes Room (e .changes) (regsChanged Clear (regsTaken (Add b) r)) (p .0) (kept-last r Room w b) in
           (kept-response Room (e .response) _ (p .1 .0) (unfold regsAll in l), (long, p .1))
 
-  data-keeps : r .write .on ≡ true → (v : Bool) (l : List ℕ) → (v ≡ false → r .write .taken + 1 ≡ sizeOf (r .write .id .n) → ⊥)
+  data-keeps : r .write .on ≡ true → (v : Bool) (l : List ℕ) → (v ≡ false → r .write .taken + 1 ≡ wholeOf (goalOf (r .write)) → ⊥)
       → Keeps (sends (Hold b) (dataIf v S (writingOf (r .write) l) (drivesOf r t d)))
   unfolding dataIf regsAll regsResponded
   data-keeps on false l q =
-      let z : r .write .taken + 1 < sizeOf (r .write .id .n) = omega (arith, taken-few (r .write) (w .write) on, q refl) in
+      let z : r .write .taken + 1 < wholeOf (goalOf (r .write)) = omega (arith, taken-few X (r .write) (w .write) on, q refl) in
       (kept-held r Room w b on z, (length-set h (r .write .taken) b ∙ long, (tt, tt)))
   data-keeps on true l q =
       go (written S (writingOf (r .write) l) (named (r .write .c1) (drivesOf r t d))) (written-ends Bad S (writingOf (r .write) l) (drivesOf r t d) clean)
@@ -112,7 +114,7 @@ module _ (r : Regs) (b : ℕ) (h t d x : List ℕ) (ok : impossibleIn x r ≡ fa
           )
 
   held-long : r .write .on ≡ true → length (take (r .write .taken) h ++ (b ∷ [])) ≡ r .write .taken + 1
-  held-long on = simp (length-append, length-take) (omega (arith, taken-few (r .write) (w .write) on, size-most (r .write .id .n), long))
+  held-long on = simp (length-append, length-take) (omega (arith, taken-few X (r .write) (w .write) on, whole-most (goalOf (r .write)), long))
 
   here-keeps : (f : Bool) → r .write .on ≡ f → Keeps (sent S (insideOf r h (slotOf r t d)) b)
   here-keeps false e =

@@ -1,4 +1,4 @@
--- The same saves and the same Read Data by calls, from a new controller into which a fresh disk is put; none of them is refused.
+-- The same saves and the same Read Data by calls, from a new controller of either machine, into which a fresh disk is put; none of them is refused.
 use mathlib.Core.Path.{_≡_, sym, ap, subst, _∙_}
 use Prim.Native.Nat.{ℕ, _≤_, min}
 use native.Mathlib.Omega.{arith}
@@ -13,7 +13,7 @@ use Rattle.store.specs.Store.{tableLength, roomOf, transferRoom, tableOf, dataO
 use Rattle.store.proofs.Rounds.{laid-back}
 use Rattle.store.specs.Fresh.{fresh}
 use Rattle.loading.proofs.Lays.{fresh-tracks, fresh-sectors, fresh-bytes}
-use Rattle.registers.specs.Boxes.{Holds, newWorld}
+use Rattle.registers.specs.Boxes.{settingOf, Holds, newWorld}
 use Rattle.registers.specs.Ports.{changeDisk}
 use Rattle.saves.specs.Events.{swap, Answer, Run, run}
 use Rattle.saves.specs.Stages.{Stage, acted, Unbroken, PutsUnbroken}
@@ -53,22 +53,22 @@ transfer-is : transferRoom (replicate mostTransfer 0) ≡ mostTransfer
 unfolding transferRoom
 transfer-is = ap (λ (n : ℕ). min n mostTransfer) (length-replicate {A = ℕ} mostTransfer 0)
 
--- a new controller into which a fresh disk was put
-unfoldable pub host : Host
-host = run called (swap true freshTable freshBytes ∷ []) (newHost [] [] (replicate mostTransfer 0)) .end
+-- a new controller of either machine, into which a fresh disk was put
+unfoldable pub host : ℕ → Host
+host n = run called (swap true freshTable freshBytes ∷ []) (newHost n [] [] (replicate mostTransfer 0)) .end
 
-pub host-sound : Sound host
+pub host-sound : (n : ℕ) → Sound (host n)
 unfolding host
-host-sound = calls-sound (swap true freshTable freshBytes ∷ []) (newHost [] [] (replicate mostTransfer 0)) (new-sound [] [] (replicate mostTransfer 0))
+host-sound n = calls-sound (swap true freshTable freshBytes ∷ []) (newHost n [] [] (replicate mostTransfer 0)) (new-sound n [] [] (replicate mostTransfer 0))
 
-pub host-stage : start ≡ stageOf host
+pub host-stage : (n : ℕ) → start (settingOf n) ≡ stageOf (host n)
 unfolding host run acted
-host-stage =
-    (λ i. record { rooms = record { room = sym fresh-room i; transfer = sym transfer-is i }; world = changeDisk (Holds (sym fresh-laid i)) newWorld })
-    ∙ ap (λ (r : Run Answer Stage). r .end) (new-run [] [] (replicate mostTransfer 0) (swap true freshTable freshBytes ∷ []))
+host-stage n =
+    (λ i. record { rooms = record { room = sym fresh-room i; transfer = sym transfer-is i }; world = changeDisk (Holds (sym fresh-laid i)) (newWorld (settingOf n)) })
+    ∙ ap (λ (r : Run Answer Stage). r .end) (new-run n [] [] (replicate mostTransfer 0) (swap true freshTable freshBytes ∷ []))
 
-pub host-ready : Ready (seen host) fresh
-host-ready = subst (λ (g : Stage). Ready (g .world) fresh) host-stage start-ready
+pub host-ready : (n : ℕ) → Ready (seen (host n)) fresh
+host-ready n = subst (λ (g : Stage). Ready (g .world) fresh) (host-stage n) (start-ready (settingOf n))
 
 -- the disk that is put in is one that its store holds: refusal 2 never comes
 pub host-unbroken : Each PutsUnbroken (swap true freshTable freshBytes ∷ [])
@@ -76,54 +76,54 @@ unfolding Each PutsUnbroken
 host-unbroken = (subst (λ (y : Result Disk). Unbroken (Holds y)) (sym fresh-laid) tt, tt)
 
 -- where the calls stand
-abbrev E′ : Host
-E′ = run called E host .end
+abbrev E′ : ℕ → Host
+E′ n = run called E (host n) .end
 
-abbrev O′ : Host
-O′ = run called O host .end
+abbrev O′ : ℕ → Host
+O′ n = run called O (host n) .end
 
-abbrev B′ : Host
-B′ = run called B E′ .end
+abbrev B′ : ℕ → Host
+B′ n = run called B (E′ n) .end
 
-e-sound : Sound E′
-e-sound = calls-sound E host host-sound
+e-sound : (n : ℕ) → Sound (E′ n)
+e-sound n = calls-sound E (host n) (host-sound n)
 
-e-stage : run acted E start .end ≡ stageOf E′
-e-stage = end-is E host host-sound start host-stage
+e-stage : (n : ℕ) → run acted E (start (settingOf n)) .end ≡ stageOf (E′ n)
+e-stage n = end-is E (host n) (host-sound n) (start (settingOf n)) (host-stage n)
 
-o-stage : run acted O start .end ≡ stageOf O′
-o-stage = end-is O host host-sound start host-stage
+o-stage : (n : ℕ) → run acted O (start (settingOf n)) .end ≡ stageOf (O′ n)
+o-stage n = end-is O (host n) (host-sound n) (start (settingOf n)) (host-stage n)
 
-b-stage : run acted B (run acted E start .end) .end ≡ stageOf B′
-b-stage = end-is B E′ e-sound (run acted E start .end) e-stage
+b-stage : (n : ℕ) → run acted B (run acted E (start (settingOf n)) .end) .end ≡ stageOf (B′ n)
+b-stage n = end-is B (E′ n) (e-sound n) (run acted E (start (settingOf n)) .end) (e-stage n)
 
-made-first : Sends E (bytesOf example) (run called E host .answers)
-made-first = made-back E host host-sound start host-stage (bytesOf example) (sending (bytesOf example) _ (grants .first))
+made-first : (n : ℕ) → Sends E (bytesOf example) (run called E (host n) .answers)
+made-first n = made-back E (host n) (host-sound n) (start (settingOf n)) (host-stage n) (bytesOf example) (sending (bytesOf example) _ (grants (settingOf n) .first))
 
 -- the store then holds the disk on which sector 3 of cylinder 7 has the bytes
-pub host-saves : storeOf (run called E host .end) ≡ good (savedBy example fresh)
-host-saves = save-calls example fresh host E host-sound host-ready example-is made-first .0
+pub host-saves : (n : ℕ) → storeOf (run called E (host n) .end) ≡ good (savedBy example fresh)
+host-saves n = save-calls example fresh (host n) E (host-sound n) (host-ready n) example-is (made-first n) .0
 
 -- the second to sector 3 alone counts
-pub host-second : storeOf (run called A (run called E host .end) .end) ≡ storeOf (run called A host .end)
-host-second =
-    second-calls example again fresh host E A A host-sound host-ready example-is again-is same made-first
-    (made-back A E′ e-sound (run acted E start .end) e-stage (bytesOf again) (sending (bytesOf again) _ (grants .second)))
-    (made-back A host host-sound start host-stage (bytesOf again) (sending (bytesOf again) _ (grants .alone)))
+pub host-second : (n : ℕ) → storeOf (run called A (run called E (host n) .end) .end) ≡ storeOf (run called A (host n) .end)
+host-second n =
+    second-calls example again fresh (host n) E A A (host-sound n) (host-ready n) example-is again-is same (made-first n)
+    (made-back A (E′ n) (e-sound n) (run acted E (start (settingOf n)) .end) (e-stage n) (bytesOf again) (sending (bytesOf again) _ (grants (settingOf n) .second)))
+    (made-back A (host n) (host-sound n) (start (settingOf n)) (host-stage n) (bytesOf again) (sending (bytesOf again) _ (grants (settingOf n) .alone)))
 
 -- sectors 3 and 4 come in either order
-pub host-order : storeOf (run called O (run called E host .end) .end) ≡ storeOf (run called E (run called O host .end) .end)
-host-order =
-    order-calls example other fresh host E O O E host-sound host-ready example-is other-is differ made-first
-    (made-back O E′ e-sound (run acted E start .end) e-stage (bytesOf other) (sending (bytesOf other) _ (grants .behind)))
-    (made-back O host host-sound start host-stage (bytesOf other) (sending (bytesOf other) _ (grants .other)))
-    (made-back E O′ (calls-sound O host host-sound) (run acted O start .end) o-stage (bytesOf example) (sending (bytesOf example) _ (grants .before)))
+pub host-order : (n : ℕ) → storeOf (run called O (run called E (host n) .end) .end) ≡ storeOf (run called E (run called O (host n) .end) .end)
+host-order n =
+    order-calls example other fresh (host n) E O O E (host-sound n) (host-ready n) example-is other-is differ (made-first n)
+    (made-back O (E′ n) (e-sound n) (run acted E (start (settingOf n)) .end) (e-stage n) (bytesOf other) (sending (bytesOf other) _ (grants (settingOf n) .behind)))
+    (made-back O (host n) (host-sound n) (start (settingOf n)) (host-stage n) (bytesOf other) (sending (bytesOf other) _ (grants (settingOf n) .other)))
+    (made-back E (O′ n) (calls-sound O (host n) (host-sound n)) (run acted O (start (settingOf n)) .end) (o-stage n) (bytesOf example) (sending (bytesOf example) _ (grants (settingOf n) .before)))
 
 -- and so many data-port reads give so many of the bytes and the reply
-pub host-reads : (n : ℕ) → n ≤ 519 → givenIn (run called (reads n) (run called L (run called B (run called E host .end) .end) .end) .answers) ≡ take n Told
-host-reads n h =
-    told-is n _
-    (back-calls example fresh 0x46 0 3 0x2A 0xFF host E B (reads n) host-sound host-ready example-is made-first back-is
-    (made-back B E′ e-sound (run acted E start .end) e-stage (readBytes example 0x46 0 3 0x2A) (sending (readBytes example 0x46 0 3 0x2A) _ (grants .begun)))
-    (made-back L B′ (calls-sound B E′ e-sound) (run acted B (run acted E start .end) .end) b-stage (0xFF ∷ []) ends)
-    (reads-lose-none n _) (few n h))
+pub host-reads : (n m : ℕ) → m ≤ 519 → givenIn (run called (reads m) (run called L (run called B (run called E (host n) .end) .end) .end) .answers) ≡ take m Told
+host-reads n m h =
+    told-is m _
+    (back-calls example fresh 0x46 0 3 0x2A 0xFF (host n) E B (reads m) (host-sound n) (host-ready n) example-is (made-first n) back-is
+    (made-back B (E′ n) (e-sound n) (run acted E (start (settingOf n)) .end) (e-stage n) (readBytes example 0x46 0 3 0x2A) (sending (readBytes example 0x46 0 3 0x2A) _ (grants (settingOf n) .begun)))
+    (made-back L (B′ n) (calls-sound B (E′ n) (e-sound n)) (run acted B (run acted E (start (settingOf n)) .end) .end) (b-stage n) (0xFF ∷ []) (ends (settingOf n)))
+    (reads-lose-none m _) (few m h))

@@ -118,9 +118,9 @@ stageOf k = record { rooms = lent k; world = seen k }
 abbrev pub storeOf : Host → Result Disk
 storeOf k = diskOf (k .table) (k .bytes)
 
--- a new controller, with buffers lent
-abbrev pub newHost : List ℕ → List ℕ → List ℕ → Host
-newHost t b x = record { floppy = newFloppy; table = t; bytes = b; transfer = x }
+-- a new controller with a setting, and with buffers lent
+abbrev pub newHost : ℕ → List ℕ → List ℕ → List ℕ → Host
+newHost n t b x = record { floppy = newFloppy n; table = t; bytes = b; transfer = x }
 
 -- a controller that is one: its arrays are as long, and its index and the fill of its write as small, as their types say; and its numbers are
 -- possible in the transfer buffer that is lent

@@ -45,7 +45,6 @@ use Rattle.registers.specs.View.{roomsOf, slotIf, slotOf, drivesOf, namedIn, go
 use Rattle.registers.specs.declared.regs.Flag.the-variants as flag
 use Rattle.registers.specs.Calls.{diskIn}
 use Rattle.registers.specs.Settle.{declined, replied, pendingWith, regsTaken, heldTaken, regsChanged, regsAll, ifUnread, interruptedBy, regsResponded, regsOf}
-use Rattle.registers.specs.Possible.{Few}
 use Rattle.registers.proofs.Numbers.{possible, possible-in, count-few, goal-kept, whole-most, taken-few}
 use Rattle.codes.specs.Second.{headOf}
 use Rattle.commands.specs.Commands.{byte, idOf, ready, whenReady, does, puts, seekTo, invalid, readData, writeData, readId, writeReply, saveAt, writtenSector}
@@ -318,8 +317,7 @@ data-takes : (s : Rooms) (b : ℕ) (w : Writing) (d : Drives) → Takes (Hold b)
 unfolding dataByte
 data-takes s b w d = sends-takes (Hold b) (dataIf (eqb (length (w .held)) (wholeOf (w .goal))) s w d)
 
-module _ (r : Regs) (b : ℕ) (h t d x : List ℕ) (ok : impossibleIn x r ≡ false) (nine : length (r .command) ≡ 9) (seven : length (r .reply) ≡ 7) (held : length h ≡ mostHeld)
-    (fits : Few (goalOf (r .write))) where
+module _ (r : Regs) (b : ℕ) (h t d x : List ℕ) (ok : impossibleIn x r ≡ false) (nine : length (r .command) ≡ 9) (seven : length (r .reply) ≡ 7) (held : length h ≡ mostHeld) where
   seen-byte : (e : Result Sent) (k : Taking) → Fits k r h → Takes k e → LaysS r t d e → Sees r h t d x (leftOf e r h t d x) (reported e) (after e (λ s. good (done (worldOf r h t d x) s)))
   unfolding leftOf regsOf done insideOf
   seen-byte (refused why) k g q l = refl
@@ -345,7 +343,7 @@ module _ (r : Regs) (b : ℕ) (h t d x : List ℕ) (ok : impossibleIn x r ≡ fa
   seen-sent : (f : Bool) → r .write .on ≡ f → Sees r h t d x (leftOf (sent (roomsOf d x) (insideOf r h (slotOf r t d)) b) r h t d x) (reportOf (roomsOf d x) (worldOf r h t d x) b) (writePort (roomsOf d x) (worldOf r h t d x) b)
   unfolding writePort reportOf
   seen-sent true e =
-      let g : r .write .taken < length h = omega (arith, taken-few (settingOf (r .setting)) (r .write) (possible r (possible-in x r ok) .write-in) e, whole-most (goalOf (r .write)) fits) in
+      let g : r .write .taken < length h = omega (arith, taken-few (settingOf (r .setting)) (r .write) (possible r (possible-in x r ok) .write-in) e, whole-most (goalOf (r .write))) in
       seen-byte (sent (roomsOf d x) (insideOf r h (slotOf r t d)) b) (Hold b) g (subst (Takes (Hold b)) (sent-data r b h t d x e) (data-takes _ b _ _)) (sent-lays r t d x h b)
   seen-sent false e =
       let g : r .count < length (r .command) = omega (arith, count-few r (possible-in x r ok)) in

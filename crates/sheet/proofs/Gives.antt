@@ -12,18 +12,17 @@ use Rattle.buffer.specs.Over.{over}
 use Rattle.buffer.proofs.Overs.{over-front, over-length, over-slice}
 use Rattle.fields.specs.Bytes.{byteAt}
 use Rattle.fields.specs.Capacities.{mostHeld}
-use Rattle.fields.specs.Model.{sizeOf}
-use Rattle.fields.proofs.Sizes.{size-most}
 use Rattle.codes.specs.Table.{commandOf, bytesFor}
 use Rattle.codes.proofs.Rows.{bytes-range}
 use Rattle.store.specs.Store.{transferRoom}
 use Rattle.registers.specs.declared.regs.Regs.{Regs}
 use Rattle.registers.specs.declared.regs.Pending.{Pending}
-use Rattle.registers.specs.Boxes.{Empty, Writing, World}
+use Rattle.registers.specs.declared.regs.Goal.{Goal}
+use Rattle.registers.specs.Boxes.{Machine, Rust, DataSheet, Setting, settingOf, Empty, wholeOf, Writing, World}
 use Rattle.registers.specs.Ports.{changeDisk}
-use Rattle.registers.specs.View.{writingIf, insideOf, frontOf, worldOf, wrongWrite, impossible, impossibleIn}
-use Rattle.registers.proofs.Numbers.{possible, count-few, taken-few, fitted-few}
-use Rattle.sheet.specs.Sheets.{wrongWriting, wrongBoxes}
+use Rattle.registers.specs.View.{goalOf, writingIf, insideOf, frontOf, worldOf, wrongWork, wrongWrite, impossible, impossibleIn}
+use Rattle.registers.proofs.Numbers.{possible, count-few, goal-kept, whole-most, work-below, work-more, write-right, taken-few}
+use Rattle.sheet.specs.Sheets.{machineByte, wrongWriting, wrongBoxes}
 use Rattle.sheet.specs.Calls.{boxesSeen, onZeros, pendingFor, heldFor, regsFor}
 
 -- ---- bytes laid from a start
@@ -47,9 +46,17 @@ first-same (b ∷ x) = refl
 
 -- ---- the numbers of the controller
 
-write-same : (w : Option Writing) → wrongWrite (pendingFor w) ≡ wrongWriting w
-write-same none = refl
-write-same (some w) = refl
+-- the machine, by its number
+setting-same : (x : Setting) → settingOf (machineByte (x .machine)) ≡ x
+setting-same x = go (x .machine)
+  where
+    go : (m : Machine) → _≡_ {A = Setting} (settingOf (machineByte m)) (record { machine = m })
+    go Rust = refl
+    go DataSheet = refl
+
+write-same : (x : Setting) (w : Option Writing) → wrongWrite x (pendingFor w) ≡ wrongWriting x w
+write-same x none = refl
+write-same x (some w) = ap (λ (g : Goal). wrongWork x (w .c1) g (length (w .held))) (goal-kept (w .goal))
 
 -- What a sheet may not hold is what refusal 1 names of the controller that it would give.
 pub wrong-is : (w : World) → impossible (regsFor w) ≡ wrongBoxes w
@@ -57,13 +64,13 @@ unfolding impossible regsFor wrongBoxes
 wrong-is w =
     let replies = le-ltb (length (w .front .reply)) 0 (omega arith) in
     let unread = le-ltb (length (w .front .unread)) 0 (omega arith) in
-    rw (replies, unread, first-same (w .inside .command), write-same (w .inside .write))
+    rw (replies, unread, first-same (w .inside .command), setting-same (w .inside .setting), write-same (w .inside .setting) (w .inside .write))
 
 -- ---- the boxes that it shows
 
 write-back : (w : Option Writing) → writingIf (pendingFor w .on) (pendingFor w) (heldFor w) ≡ w
 write-back none = refl
-write-back (some w) = ap (λ (held : List ℕ). some record { c1 = w .c1; id = w .id; held = held }) (front-back (replicate mostHeld 0) (w .held))
+write-back (some w) = λ i. some record { c1 = w .c1; goal = goal-kept (w .goal) i; held = front-back (replicate mostHeld 0) (w .held) i }
 
 -- The controller that boxes give shows these boxes, with no disk, where its unread data are laid at the transfer buffer's start.
 pub gives-seen : (w : World) (x : List ℕ)
@@ -71,6 +78,7 @@ pub gives-seen : (w : World) (x : List ℕ)
 unfolding regsFor insideOf frontOf changeDisk
 gives-seen w x = λ i. record {
   inside = record {
+    setting = setting-same (w .inside .setting) i;
     motor = w .inside .motor;
     index = w .inside .index;
     command = front-back (replicate 9 0) (w .inside .command) i;
@@ -101,11 +109,11 @@ part-below (suc n) [] h = omega (arith, bytes-range (commandOf 0) .0)
 part-below (suc n) (b ∷ c) h = omega (arith, length-take n c)
 
 -- a write in progress that is right is seen as one
-write-right : (f : Bool) (p : Pending) (h : List ℕ) → p .on ≡ f → wrongWrite p ≡ false → wrongWriting (writingIf f p h) ≡ false
-write-right true p h on e =
-    let short : length (take (p .taken) h) < sizeOf (p .id .n) = omega (arith, length-take (p .taken) h, taken-few p e on) in
-    rw (lt-leb (sizeOf (p .id .n)) (length (take (p .taken) h)) short, fitted-few p e on)
-write-right false p h on e = refl
+seen-write : (x : Setting) (f : Bool) (p : Pending) (h : List ℕ) → p .on ≡ f → wrongWrite x p ≡ false → wrongWriting x (writingIf f p h) ≡ false
+seen-write x true p h on e =
+    let short : length (take (p .taken) h) < wholeOf (goalOf p) = omega (arith, length-take (p .taken) h, taken-few x p e on) in
+    work-more x (p .c1) (goalOf p) (p .taken) (length (take (p .taken) h)) short (write-right x p e on)
+seen-write x false p h on e = refl
 
 -- The boxes that a controller shows are right where its numbers are possible.
 pub seen-right : (r : Regs) (h x : List ℕ) → length (r .reply) ≡ 7 → impossible r ≡ false → wrongBoxes (boxesSeen r h x) ≡ false
@@ -116,7 +124,7 @@ seen-right r h x seven e =
     let reply = slice (r .place) (r .fill) (r .reply) in
     let few : length reply ≤ 7 = omega (arith, length-slice (r .place) (r .fill) (r .reply) (omega (arith, p .fill-in)), p .fill-in) in
     let below = lt-leb (bytesFor (commandOf (byteAt command 0))) (length command) (part-below (r .count) (r .command) (p .count-in)) in
-    rw (le-ltb 7 (length reply) few, below, le-ltb 2 (r .lost) (p .lost-in), write-right (r .write .on) (r .write) h refl (p .write-in))
+    rw (le-ltb 7 (length reply) few, below, le-ltb 2 (r .lost) (p .lost-in), seen-write (settingOf (r .setting)) (r .write .on) (r .write) h refl (p .write-in))
 
 -- They are those of the whole controller, but for the disk.
 pub seen-same : (r : Regs) (h t b x : List ℕ) → changeDisk Empty (worldOf r h t b x) ≡ boxesSeen r h x
@@ -126,16 +134,16 @@ seen-same r h t b x = refl
 -- ---- how long right boxes are
 
 -- what is held of a write lacks a byte at least
-pub held-few : (w : Writing) → wrongWriting (some w) ≡ false → length (w .held) < mostHeld
-held-few w e = omega (arith, taken-few (pendingFor (some w)) e refl, size-most (w .id .n))
+pub held-few : (x : Setting) (w : Writing) → wrongWriting x (some w) ≡ false → length (w .held) < mostHeld
+held-few x w e = omega (arith, work-below x (w .c1) (w .goal) (length (w .held)) e, whole-most (w .goal))
 
-held-long : (w : Option Writing) → wrongWriting w ≡ false → length (heldFor w) ≡ mostHeld
-held-long none e = simp length-replicate
-held-long (some w) e = zeros-long mostHeld (w .held) (omega (arith, held-few w e))
+held-long : (x : Setting) (w : Option Writing) → wrongWriting x w ≡ false → length (heldFor w) ≡ mostHeld
+held-long x none e = simp length-replicate
+held-long x (some w) e = zeros-long mostHeld (w .held) (omega (arith, held-few x w e))
 
-taken-fits : (w : Option Writing) → wrongWriting w ≡ false → pendingFor w .taken < 65536
-taken-fits none e = omega arith
-taken-fits (some w) e = omega (arith, held-few w e)
+taken-fits : (x : Setting) (w : Option Writing) → wrongWriting x w ≡ false → pendingFor w .taken < 65536
+taken-fits x none e = omega arith
+taken-fits x (some w) e = omega (arith, held-few x w e)
 
 module _ (w : World) (right : wrongBoxes w ≡ false) where
   could : impossible (regsFor w) ≡ false
@@ -152,9 +160,11 @@ module _ (w : World) (right : wrongBoxes w ≡ false) where
   reply-few = possible (regsFor w) could .fill-in
 
   -- a write is one that refusal 1 does not name
-  pub write-fits : wrongWriting (w .inside .write) ≡ false
+  pub write-fits : wrongWriting (w .inside .setting) (w .inside .write) ≡ false
   unfolding regsFor
-  write-fits = sym (write-same (w .inside .write)) ∙ possible (regsFor w) could .write-in
+  write-fits =
+      sym (ap (λ (x : Setting). wrongWrite x (pendingFor (w .inside .write))) (setting-same (w .inside .setting)) ∙ write-same (w .inside .setting) (w .inside .write))
+      ∙ possible (regsFor w) could .write-in
 
   -- arrays and held bytes are as long as their types say: the command's,
   pub gives-nine : length (regsFor w .command) ≡ 9
@@ -168,9 +178,9 @@ module _ (w : World) (right : wrongBoxes w ≡ false) where
 
   -- those of a write,
   pub gives-held : length (heldFor (w .inside .write)) ≡ mostHeld
-  gives-held = held-long (w .inside .write) write-fits
+  gives-held = held-long (w .inside .setting) (w .inside .write) write-fits
 
   -- and their number fits
   pub gives-taken : regsFor w .write .taken < 65536
   unfolding regsFor
-  gives-taken = taken-fits (w .inside .write) write-fits
+  gives-taken = taken-fits (w .inside .setting) (w .inside .write) write-fits

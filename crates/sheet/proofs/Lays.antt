@@ -1,27 +1,29 @@
 -- Boxes laid one behind another.
 use mathlib.Core.Path.{_≡_, refl, sym, ap, _∙_}
-use Prim.Native.Nat.{ℕ, _+_, _-_, _≤_, _<_}
+use Prim.Native.Nat.{ℕ, _+_, _-_, _%_, _≤_, _<_}
 use native.Mathlib.Omega.{arith}
+use native.Mathlib.Nat.{mod-lt}
 use mathlib.Core.Bool.{Bool, true, false, not}
 use mathlib.Core.List.{List, [], _∷_, _++_, append-assoc, append-nil}
 use lib.ListN.{length, take, length-append}
 use lib.Seq.{length-take-le, slice}
-use borrow.Author.Tests.{not-true, not-false}
+use lib.Dec.{eqb}
+use borrow.Author.Tests.{eqb-true, eqb-false, not-true, not-false}
 use Rattle.buffer.specs.Over.{over}
 use Rattle.buffer.proofs.Overs.{over-over}
 use Rattle.fields.specs.declared.refusal.Refusal.the-variants.{BadController, ShortBuffer}
-use Rattle.fields.proofs.Tests.{never}
 use Rattle.registers.specs.declared.regs.Regs.{Regs}
 use Rattle.registers.specs.declared.regs.Pending.{Pending}
+use Rattle.registers.specs.Boxes.{machineIf, settingOf}
 use Rattle.registers.specs.View.{writingIf, insideOf, frontOf}
 use Rattle.sending.specs.Calls.{impossibleWith}
 use Rattle.layout.specs.Layout.{flagByte, seekByte}
-use Rattle.sheet.specs.Sheets.{highFor, boxFor, writeBox, sheetVersion, boxesOf, boxesFor, paperOf, sheetOf}
+use Rattle.sheet.specs.Sheets.{highFor, boxFor, writeBox, machineByte, formatBox, sheetVersion, boxesOf, boxesFor, paperOf, sheetOf}
 use Rattle.store.specs.Calls.{penned}
 use Rattle.store.proofs.Pens.{penned-short, penned-whole}
 use Rattle.store.specs.declared.answer.Extent.the-variants.{Of, Refused}
-use Rattle.sheet.specs.Calls.{boxesSeen, sheetWritten}
-use Rattle.sheet.proofs.Lengths.{write-room, Known}
+use Rattle.sheet.specs.Calls.{boxesSeen, workFor, sheetWritten}
+use Rattle.sheet.proofs.Lengths.{work-long, Known}
 
 -- two parts, the second just behind the first
 laid-behind : (d d₁ d₂ a b : List ℕ) (at at′ : ℕ) → at ≤ length d → at′ ≡ at + length a → d₁ ≡ over d at a → d₂ ≡ over d₁ at′ b
@@ -41,32 +43,25 @@ pub laid-long : (d d₁ d₂ x : List ℕ) (at : ℕ) → at + 4 + length x ≤ 
     → d₂ ≡ over d at (boxFor 4 x [])
 laid-long d d₁ d₂ x at h p q = laid-box d d₁ d₂ (highFor 4 (length x) []) x at (at + 4) h refl p q
 
--- the box of a write: of none, and of one in progress
-no-writing : (f : Bool) (p : Pending) (h : List ℕ) → f ≡ false → [] ≡ writeBox (writingIf f p h)
-no-writing true p h q = never (cc)
-no-writing false p h q = refl
+-- the box of a write that is to stand here, or is not
+pub laid-none : (d d₁ h : List ℕ) (at : ℕ) (f : Bool) (p : Pending) → not f ≡ true → d₁ ≡ over d at (boxFor 2 [] [])
+    → d₁ ≡ over d at (boxFor 2 (workFor f p h) [])
+laid-none d d₁ h at f p q e = e ∙ ap (λ (v : Bool). over d at (boxFor 2 (workFor v p h) [])) (sym (not-true f q))
 
-a-writing : (f : Bool) (p : Pending) (h : List ℕ) → f ≡ true → writeBox (writingIf true p h) ≡ writeBox (writingIf f p h)
-a-writing true p h q = refl
-a-writing false p h q = never (cc)
-
-pub laid-none : (d d₁ h : List ℕ) (at : ℕ) (p : Pending) → not (p .on) ≡ true → d₁ ≡ over d at (boxFor 2 [] [])
-    → d₁ ≡ over d at (boxFor 2 (writeBox (writingIf (p .on) p h)) [])
-laid-none d d₁ h at p q e = e ∙ ap (λ (z : List ℕ). over d at (boxFor 2 z [])) (no-writing (p .on) p h (not-true (p .on) q))
-
-pub laid-write : (d d₁ d₂ h : List ℕ) (at : ℕ) (p : Pending) → not (p .on) ≡ false → (p .on ≡ true → p .taken ≤ length h)
-    → at + 2 + length (writeBox (writingIf (p .on) p h)) ≤ length d
-    → d₁ ≡ over d at (highFor 2 (5 + p .taken) (p .c1 ∷ p .id .c ∷ p .id .h ∷ p .id .r ∷ p .id .n ∷ [])) → d₂ ≡ over d₁ (at + 7) (take (p .taken) h)
-    → d₂ ≡ over d at (boxFor 2 (writeBox (writingIf (p .on) p h)) [])
-laid-write d d₁ d₂ h at p q k e f g =
-    let l : p .taken ≤ length h = k (not-false (p .on) q) in
+pub laid-work : (d d₁ d₂ h : List ℕ) (at : ℕ) (f : Bool) (p : Pending) → not f ≡ false → (f ≡ true → p .taken ≤ length h)
+    → at + 2 + length (workFor f p h) ≤ length d
+    → d₁ ≡ over d at (highFor 2 (5 + p .taken) (p .c1 ∷ p .target .one ∷ p .target .two ∷ p .target .three ∷ p .target .four ∷ []))
+    → d₂ ≡ over d₁ (at + 7) (take (p .taken) h) → d₂ ≡ over d at (boxFor 2 (workFor f p h) [])
+laid-work d d₁ d₂ h at f p q k e g s =
+    let on : f ≡ true = not-false f q in
+    let l : p .taken ≤ length h = k on in
     let x : List ℕ = take (p .taken) h in
     let t : length x ≡ p .taken = length-take-le (p .taken) h l in
-    let r : at + 7 + p .taken ≤ length d = write-room p h at (length d) (not-false (p .on) q) l e in
-    let n : 5 + p .taken ≡ length (writeBox (writingIf true p h)) = omega arith in
-    laid-box d d₁ d₂ (highFor 2 (5 + p .taken) (p .c1 ∷ p .id .c ∷ p .id .h ∷ p .id .r ∷ p .id .n ∷ [])) x at (at + 7) (omega arith) refl f g
-    ∙ ap (λ (k : ℕ). over d at (highFor 2 k (writeBox (writingIf true p h) ++ []))) n
-    ∙ ap (λ (z : List ℕ). over d at (boxFor 2 z [])) (a-writing (p .on) p h (not-false (p .on) q))
+    let m : length (workFor f p h) ≡ 5 + p .taken = ap (λ (v : Bool). length (workFor v p h)) on ∙ work-long p h l in
+    let n : 5 + p .taken ≡ length (workFor true p h) = sym (work-long p h l) in
+    laid-box d d₁ d₂ (highFor 2 (5 + p .taken) (p .c1 ∷ p .target .one ∷ p .target .two ∷ p .target .three ∷ p .target .four ∷ [])) x at (at + 7) (omega arith) refl g s
+    ∙ ap (λ (v : ℕ). over d at (highFor 2 v (workFor true p h ++ []))) n
+    ∙ ap (λ (v : Bool). over d at (boxFor 2 (workFor v p h) [])) (sym on)
 
 -- ---- a whole sheet
 
@@ -93,32 +88,64 @@ laid-first d d₁ d₂ d₃ o x y z r rest at g e p q f s =
     ∙ ap (λ (l : List ℕ). over d 0 (openingFor r rest (highFor 2 (length x) l))) (append-assoc x [] (boxFor 2 y []))
     ∙ ap (λ (l : List ℕ). over d 0 (openingFor r rest (boxFor 2 x (boxFor 2 l [])))) g
 
--- the unread data, the lost count and the write
-pub laid-rest : (d d₁ d₂ d₃ x y z : List ℕ) (lost at at₁ at₂ : ℕ) → at ≤ length d → x ≡ z → d₁ ≡ over d at (boxFor 4 x []) → at₁ ≡ at + 4 + length x
-    → d₂ ≡ over d₁ at₁ (boxFor 2 (lost ∷ []) []) → at₂ ≡ at₁ + 2 + 1 → d₃ ≡ over d₂ at₂ (boxFor 2 y [])
-    → d₃ ≡ over d at (boxFor 4 z (boxFor 2 (lost ∷ []) (boxFor 2 y [])))
-laid-rest d d₁ d₂ d₃ x y z lost at at₁ at₂ h g p e q f s =
+-- the unread data, the lost count, the write, the machine and the Format
+abbrev restFor : List ℕ → ℕ → List ℕ → ℕ → List ℕ → List ℕ
+restFor x lost y m z = boxFor 4 x (boxFor 2 (lost ∷ []) (boxFor 2 y (boxFor 2 (m ∷ []) (boxFor 2 z []))))
+
+-- two boxes, one behind the other
+then-box : (d d₁ d₂ a x : List ℕ) (at at′ : ℕ) → at ≤ length d → at′ ≡ at + length a → d₁ ≡ over d at a → d₂ ≡ over d₁ at′ (boxFor 2 x []) → d₂ ≡ over d at (a ++ boxFor 2 x [])
+then-box d d₁ d₂ a x at at′ h e p q = laid-behind d d₁ d₂ a (boxFor 2 x []) at at′ h e p q
+
+rest-is : (x y z : List ℕ) (lost m : ℕ)
+    → (((boxFor 4 x [] ++ boxFor 2 (lost ∷ []) []) ++ boxFor 2 y []) ++ boxFor 2 (m ∷ []) []) ++ boxFor 2 z [] ≡ restFor x lost y m z
+rest-is x y z lost m =
+    let b : List ℕ = boxFor 2 (lost ∷ []) [] in
+    let c : List ℕ = boxFor 2 y [] in
+    let e : List ℕ = boxFor 2 (m ∷ []) [] in
+    let f : List ℕ = boxFor 2 z [] in
+    simp (append-assoc, append-nil)
+
+pub laid-rest : (d d₁ d₂ d₃ d₄ d₅ x y z u v w : List ℕ) (lost m at at₁ at₂ at₃ at₄ : ℕ) → at ≤ length d → x ≡ u → y ≡ v → z ≡ w
+    → d₁ ≡ over d at (boxFor 4 x []) → at₁ ≡ at + 4 + length x → d₂ ≡ over d₁ at₁ (boxFor 2 (lost ∷ []) []) → at₂ ≡ at₁ + 2 + 1
+    → d₃ ≡ over d₂ at₂ (boxFor 2 y []) → at₃ ≡ at₂ + 2 + length y → d₄ ≡ over d₃ at₃ (boxFor 2 (m ∷ []) []) → at₄ ≡ at₃ + 2 + 1
+    → d₅ ≡ over d₄ at₄ (boxFor 2 z []) → d₅ ≡ over d at (restFor u lost v m w)
+laid-rest d d₁ d₂ d₃ d₄ d₅ x y z u v w lost m at at₁ at₂ at₃ at₄ h eu ev ew p e q f s g t k r =
     let a : List ℕ = boxFor 4 x [] in
     let b : List ℕ = boxFor 2 (lost ∷ []) [] in
     let c : List ℕ = boxFor 2 y [] in
-    let n : length a ≡ 4 + length x = simp append-nil (omega arith) in
-    let m : at₂ ≡ at + length (a ++ b) = simp length-append (omega arith) in
-    let u : d₂ ≡ over d at (a ++ b) = laid-behind d d₁ d₂ a b at at₁ h (omega arith) p q in
-    laid-behind d d₂ d₃ (a ++ b) c at at₂ h m u s
-    ∙ ap (λ (l : List ℕ). over d at (highFor 4 (length x) l)) (append-assoc (x ++ []) b c ∙ append-assoc x [] (b ++ c))
-    ∙ ap (λ (l : List ℕ). over d at (boxFor 4 l (b ++ c))) g
+    let i : List ℕ = boxFor 2 (m ∷ []) [] in
+    let na : length a ≡ 4 + length x = simp append-nil (omega arith) in
+    let nc : length c ≡ 2 + length y = simp append-nil (omega arith) in
+    let n1 : at₁ ≡ at + length a = omega arith in
+    let n2 : at₂ ≡ at + length (a ++ b) = simp length-append (omega arith) in
+    let n3 : at₃ ≡ at + length ((a ++ b) ++ c) = simp length-append (omega arith) in
+    let n4 : at₄ ≡ at + length (((a ++ b) ++ c) ++ i) = simp length-append (omega arith) in
+    let u2 = then-box d d₁ d₂ a (lost ∷ []) at at₁ h n1 p q in
+    let u3 = then-box d d₂ d₃ (a ++ b) y at at₂ h n2 u2 s in
+    let u4 = then-box d d₃ d₄ ((a ++ b) ++ c) (m ∷ []) at at₃ h n3 u3 t in
+    then-box d d₄ d₅ (((a ++ b) ++ c) ++ i) z at at₄ h n4 u4 r ∙ ap (over d at) (rest-is x y z lost m) ∙ (λ j. over d at (restFor (eu j) lost (ev j) m (ew j)))
+
+-- the number of the machine that a setting has
+machine-number : (n : ℕ) → n % 2 ≡ machineByte (settingOf n .machine)
+machine-number n = go (eqb (n % 2) 0) refl
+  where
+    go : (f : Bool) → eqb (n % 2) 0 ≡ f → n % 2 ≡ machineByte (machineIf f)
+    go true e = eqb-true (n % 2) 0 e
+    go false e = let z : n % 2 ≡ 0 → ⊥ = eqb-false (n % 2) 0 e in omega (arith, z, mod-lt n {2} (omega arith))
 
 -- both
 pub laid-sheet : (d d₁ d₂ h x : List ℕ) (r : Regs) (n at : ℕ) → Known r h x → n ≡ length (sheetOf (boxesSeen r h x))
     → d₁ ≡ over d 0 (openingFor r (n - 5) (boxFor 2 (take (r .count) (r .command)) (boxFor 2 (slice (r .place) (r .fill) (r .reply)) [])))
     → at ≡ 22 + r .count + (r .fill - r .place)
-    → d₂ ≡ over d₁ at (boxFor 4 (slice (r .from) (r .until) x) (boxFor 2 (r .lost ∷ []) (boxFor 2 (writeBox (writingIf (r .write .on) (r .write) h)) [])))
+    → d₂ ≡ over d₁ at (restFor (slice (r .from) (r .until) x) (r .lost) (writeBox (writingIf (r .write .on) (r .write) h)) (r .setting % 2) (formatBox (writingIf (r .write .on) (r .write) h)))
     → d₂ ≡ over d 0 (sheetOf (boxesSeen r h x))
 unfolding paperOf boxesOf boxesFor insideOf frontOf
 laid-sheet d d₁ d₂ h x r n at k e p f q =
     let c : List ℕ = take (r .count) (r .command) in
     let y : List ℕ = slice (r .place) (r .fill) (r .reply) in
-    let b : List ℕ = boxFor 4 (slice (r .from) (r .until) x) (boxFor 2 (r .lost ∷ []) (boxFor 2 (writeBox (writingIf (r .write .on) (r .write) h)) [])) in
+    let o = writingIf (r .write .on) (r .write) h in
+    let rest : ℕ → List ℕ = λ v. restFor (slice (r .from) (r .until) x) (r .lost) (writeBox o) v (formatBox o) in
+    let b : List ℕ = rest (r .setting % 2) in
     let a : List ℕ = openingFor r (n - 5) (boxFor 2 c (boxFor 2 y [])) in
     let m : n - 5 ≡ length (boxesFor (boxesOf (boxesSeen r h x))) = omega arith in
     let s : at ≡ 0 + length a = simp (append-nil, length-append) (omega arith) in
@@ -126,6 +153,7 @@ laid-sheet d d₁ d₂ h x r n at k e p f q =
     ∙ ap (λ (z : List ℕ). over d 0 (openingFor r (n - 5) (highFor 2 (length c) z))) (append-assoc c (boxFor 2 y []) b)
     ∙ ap (λ (z : List ℕ). over d 0 (openingFor r (n - 5) (boxFor 2 c (highFor 2 (length y) z)))) (append-assoc y [] b)
     ∙ ap (λ (i : ℕ). over d 0 (openingFor r i (boxFor 2 c (boxFor 2 y b)))) m
+    ∙ ap (λ (i : ℕ). over d 0 (openingFor r (length (boxesFor (boxesOf (boxesSeen r h x)))) (boxFor 2 c (boxFor 2 y (rest i))))) (machine-number (r .setting))
 
 -- ---- the call
 

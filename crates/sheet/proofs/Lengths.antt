@@ -2,30 +2,31 @@
 use mathlib.Core.Path.{_≡_, refl, sym, ap, _∙_}
 use Prim.Native.Nat.{ℕ, _+_, _-_, _≤_, _<_}
 use native.Mathlib.Omega.{arith}
-use mathlib.Core.Bool.{Bool, true, false, not, cond}
+use mathlib.Core.Bool.{Bool, true, false, not, cond, _&&_}
 use mathlib.Core.List.{List, [], _∷_}
 use mathlib.Core.Option.{Option, none, some}
 use lib.ListN.{length, take, replicate, length-append, length-replicate}
 use lib.Seq.{length-take-le, slice, length-slice}
 use lib.Dec.{eqb, leb}
-use borrow.Author.Tests.{eq-eqb, eqb-true, ne-eqb, lt-leb, leb-false, not-false}
+use borrow.Author.Tests.{eq-eqb, eqb-true, ne-eqb, lt-leb, not-false}
 use Rattle.fields.specs.Capacities.{mostTransfer, mostHeld}
-use Rattle.fields.specs.Model.{sizeOf}
-use Rattle.fields.proofs.Sizes.{size-most, size-3}
+use Rattle.fields.proofs.Sizes.{size-3}
 use Rattle.fields.proofs.Tests.{never}
 use Rattle.codes.specs.Table.{commandOf, commandBy, rows, maskRows}
 use Rattle.store.proofs.Checks.{transfer-in}
 use Rattle.registers.specs.declared.regs.Regs.{Regs}
 use Rattle.registers.specs.declared.regs.Pending.{Pending}
 use Rattle.registers.specs.declared.regs.Seek.the-variants.{Idle}
-use Rattle.registers.specs.Boxes.{Empty, Writing, World}
-use Rattle.registers.specs.View.{writingIf, insideOf, frontOf, impossibleIn}
+use Rattle.registers.specs.declared.regs.Goal.{Goal}
+use Rattle.registers.specs.declared.regs.Goal.the-variants.{IntoSector, IntoTrack}
+use Rattle.registers.specs.Boxes.{Setting, settingOf, rustMachine, Empty, Writing, World}
+use Rattle.registers.specs.View.{goalOf, writingIf, insideOf, frontOf, wrongWork, impossibleIn}
 use Rattle.registers.specs.Possible.{Possible}
-use Rattle.registers.proofs.Numbers.{neither, possible, possible-in, until-in, until-long, count-few, taken-few}
+use Rattle.registers.proofs.Numbers.{neither, possible, possible-in, until-in, until-long, count-few, whole-most, taken-few}
 use Rattle.sending.specs.Calls.{impossibleWith}
-use Rattle.sheet.specs.Sheets.{boxFor, writeBox, boxesOf, boxesFor, paperOf, sheetOf, wrongWriting, wrongBoxes}
-use Rattle.sheet.specs.Calls.{longestSheet, Longest, boxesSeen}
-use Rattle.sheet.proofs.Gives.{seen-right, command-few, reply-few, write-fits}
+use Rattle.sheet.specs.Sheets.{boxFor, writeAs, writeBox, formatAs, formatBox, boxesOf, boxesFor, paperOf, sheetOf, wrongWriting, wrongBoxes}
+use Rattle.sheet.specs.Calls.{longestSheet, Longest, boxesSeen, workFor}
+use Rattle.sheet.proofs.Gives.{seen-right, held-few, command-few, reply-few, write-fits}
 
 -- ---- numbers that are possible
 
@@ -59,32 +60,45 @@ pub size-few : (f : Bool) (n : ℕ) → cond f n 0 ≤ n
 size-few true n = omega arith
 size-few false n = omega arith
 
-write-size : (f : Bool) (p : Pending) (h : List ℕ) → (f ≡ true → p .taken ≤ length h) → length (writeBox (writingIf f p h)) ≡ cond f (5 + p .taken) 0
-write-size true p h e = let t : length (take (p .taken) h) ≡ p .taken = length-take-le (p .taken) h (e refl) in omega arith
-write-size false p h e = refl
+-- the boxes of a write and of a Format, of which one has it at most
+abbrev pub worksOf : Option Writing → ℕ
+worksOf o = length (writeBox o) + length (formatBox o)
 
--- the room that a write in progress needs
-pub write-room : (p : Pending) (h : List ℕ) (at room : ℕ) → p .on ≡ true → p .taken ≤ length h
-    → at + 2 + length (writeBox (writingIf (p .on) p h)) ≤ room → at + 7 + p .taken ≤ room
-write-room p h at room q e l =
-    let n : length (writeBox (writingIf (p .on) p h)) ≡ 5 + p .taken = write-size (p .on) p h (λ _. e) ∙ sym (size-on (p .on) (5 + p .taken) q) in
-    omega arith
+work-size : (f t : Bool) (p : Pending) (h : List ℕ) → p .track ≡ t → (f ≡ true → p .taken ≤ length h) → worksOf (writingIf f p h) ≡ cond f (5 + p .taken) 0
+work-size false t p h g e = refl
+work-size true true p h g e = let n : length (take (p .taken) h) ≡ p .taken = length-take-le (p .taken) h (e refl) in rw g (omega arith)
+work-size true false p h g e = let n : length (take (p .taken) h) ≡ p .taken = length-take-le (p .taken) h (e refl) in rw g (omega arith)
+
+-- the room that a box that is to stand somewhere needs
+pub work-long : (p : Pending) (h : List ℕ) → p .taken ≤ length h → length (workFor true p h) ≡ 5 + p .taken
+work-long p h e = let t : length (take (p .taken) h) ≡ p .taken = length-take-le (p .taken) h e in omega arith
+
+-- which of the boxes a write in progress has
+pub write-here : (f t : Bool) (p : Pending) (h : List ℕ) → p .track ≡ t → writeBox (writingIf f p h) ≡ workFor (f && not t) p h
+write-here false t p h g = refl
+write-here true true p h g = rw g
+write-here true false p h g = rw g
+
+pub format-here : (f t : Bool) (p : Pending) (h : List ℕ) → p .track ≡ t → formatBox (writingIf f p h) ≡ workFor (f && t) p h
+format-here false t p h g = refl
+format-here true true p h g = rw g
+format-here true false p h g = rw g
 
 -- ---- a whole sheet
 
--- nine boxes with their lengths
-boxes-length : (a b c d e f g k m : List ℕ)
-    → length (boxFor 2 a (boxFor 2 b (boxFor 2 c (boxFor 2 d (boxFor 2 e (boxFor 2 f (boxFor 4 g (boxFor 2 k (boxFor 2 m [])))))))))
-    ≡ 20 + length a + length b + length c + length d + length e + length f + length g + length k + length m
-boxes-length a b c d e f g k m = simp length-append (omega arith)
+-- eleven boxes with their lengths
+boxes-length : (a b c d e f g k m n o : List ℕ)
+    → length (boxFor 2 a (boxFor 2 b (boxFor 2 c (boxFor 2 d (boxFor 2 e (boxFor 2 f (boxFor 4 g (boxFor 2 k (boxFor 2 m (boxFor 2 n (boxFor 2 o [])))))))))))
+    ≡ 24 + length a + length b + length c + length d + length e + length f + length g + length k + length m + length n + length o
+boxes-length a b c d e f g k m n o = simp length-append (omega arith)
 
 -- how long a sheet is
 pub sheet-length : (w : World)
-    → length (sheetOf w) ≡ 31 + length (w .inside .command) + length (w .front .reply) + length (w .front .unread) + length (writeBox (w .inside .write))
+    → length (sheetOf w) ≡ 36 + length (w .inside .command) + length (w .front .reply) + length (w .front .unread) + worksOf (w .inside .write)
 unfolding paperOf boxesOf boxesFor
 sheet-length w =
     let p = boxesOf w in
-    let n = boxes-length (p .motor) (p .cylinder) (p .seek) (p .index) (p .command) (p .reply) (p .unread) (p .lost) (p .write) in
+    let n = boxes-length (p .motor) (p .cylinder) (p .seek) (p .index) (p .command) (p .reply) (p .unread) (p .lost) (p .write) (p .machine) (p .format) in
     omega arith
 
 -- what is known of a controller whose numbers are possible, of what is lent to it, and of its sheet
@@ -98,7 +112,7 @@ pub record Known (r : Regs) (h x : List ℕ) : Type 0 where
   pub command-long : length (take (r .count) (r .command)) ≡ r .count
   pub reply-long : length (slice (r .place) (r .fill) (r .reply)) ≡ r .fill - r .place
   pub long : length (sheetOf (boxesSeen r h x))
-      ≡ 31 + r .count + (r .fill - r .place) + (r .until - r .from) + length (writeBox (writingIf (r .write .on) (r .write) h))
+      ≡ 36 + r .count + (r .fill - r .place) + (r .until - r .from) + worksOf (writingIf (r .write .on) (r .write) h)
 
 module _ (r : Regs) (h x : List ℕ) (nine : length (r .command) ≡ 9) (seven : length (r .reply) ≡ 7) (e : impossibleWith h x r ≡ false) where
   pub known : Known r h x
@@ -117,30 +131,32 @@ module _ (r : Regs) (h x : List ℕ) (nine : length (r .command) ≡ 9) (seven :
         fill-in = p .fill-in;
         from-in = p .from-in;
         until-in = inside;
-        held-in = λ q. omega (arith, taken-few (r .write) (p .write-in) q, size-most (r .write .id .n), possible-held r h x e);
+        held-in = λ q. omega (arith, taken-few (settingOf (r .setting)) (r .write) (p .write-in) q, whole-most (goalOf (r .write)), possible-held r h x e);
         command-long = c;
         reply-long = y;
-        long = sheet-length (boxesSeen r h x) ∙ (λ k. 31 + c k + y k + u k + length (writeBox (writingIf (r .write .on) (r .write) h)));
+        long = sheet-length (boxesSeen r h x) ∙ (λ k. 36 + c k + y k + u k + worksOf (writingIf (r .write .on) (r .write) h));
       }
 
   -- how long a sheet is, by the numbers of a controller whose numbers are possible
   pub sheet-size : length (sheetOf (boxesSeen r h x))
-      ≡ 31 + r .count + (r .fill - r .place) + (r .until - r .from) + cond (r .write .on) (5 + r .write .taken) 0
+      ≡ 36 + r .count + (r .fill - r .place) + (r .until - r .from) + cond (r .write .on) (5 + r .write .taken) 0
   sheet-size =
       known .long
-      ∙ ap (λ (n : ℕ). 31 + r .count + (r .fill - r .place) + (r .until - r .from) + n) (write-size (r .write .on) (r .write) h (known .held-in))
+      ∙ ap (λ (n : ℕ). 36 + r .count + (r .fill - r .place) + (r .until - r .from) + n) (work-size (r .write .on) (r .write .track) (r .write) h refl (known .held-in))
 
 -- ---- the longest sheet
 
-write-most : (o : Option Writing) → wrongWriting o ≡ false → length (writeBox o) ≤ 5 + (mostHeld - 1)
-write-most none e = omega arith
-write-most (some w) e =
-    let few = leb-false (sizeOf (w .id .n)) (length (w .held)) (neither (leb (sizeOf (w .id .n)) (length (w .held))) _ e .0) in
-    omega (arith, few, size-most (w .id .n))
+work-most : (x : Setting) (o : Option Writing) → wrongWriting x o ≡ false → worksOf o ≤ 5 + (mostHeld - 1)
+work-most x none e = omega arith
+work-most x (some w) e = go (w .goal) (held-few x w e)
+  where
+    go : (g : Goal) → length (w .held) < mostHeld → length (writeAs g (w .c1) (w .held)) + length (formatAs g (w .c1) (w .held)) ≤ 5 + (mostHeld - 1)
+    go (IntoSector id) h = omega (arith, h)
+    go (IntoTrack z) h = omega (arith, h)
 
 -- No sheet of boxes that refusal 1 does not name, with no more unread data than can be lent, is longer than `longestSheet`,
 pub sheet-longest : (w : World) → wrongBoxes w ≡ false → length (w .front .unread) ≤ mostTransfer → length (sheetOf w) ≤ longestSheet
-sheet-longest w e l = omega (arith, sheet-length w, reply-few w e, command-few w e, write-most (w .inside .write) (write-fits w e))
+sheet-longest w e l = omega (arith, sheet-length w, reply-few w e, command-few w e, work-most (w .inside .setting) (w .inside .write) (write-fits w e))
 
 -- So the sheet of a controller whose numbers are possible is not,
 pub sheet-most : (r : Regs) (h x : List ℕ) → length (r .reply) ≡ 7 → impossibleWith h x r ≡ false → length (sheetOf (boxesSeen r h x)) ≤ longestSheet
@@ -155,20 +171,21 @@ sheet-most r h x seven e =
 filled : List ℕ → List ℕ → World
 filled u h = record {
   inside = record {
+    setting = rustMachine;
     motor = false;
     index = 0;
     command = 6 ∷ 0 ∷ 0 ∷ 0 ∷ 0 ∷ 0 ∷ 0 ∷ 0 ∷ [];
-    write = some record { c1 = 0; id = record { c = 0; h = 0; r = 0; n = 3 }; held = h };
+    write = some record { c1 = 0; goal = IntoSector (record { c = 0; h = 0; r = 0; n = 3 }); held = h };
     drives = record { first = record { cylinder = 0; slot = Empty } };
   };
   front = record { seek = Idle; reply = 0 ∷ 0 ∷ 0 ∷ 0 ∷ 0 ∷ 0 ∷ 0 ∷ []; unread = u; lost = 0 };
 }
 
 filled-right : (u h : List ℕ) → length h < 1024 → wrongBoxes (filled u h) ≡ false
-unfolding filled wrongBoxes commandOf commandBy rows maskRows
+unfolding filled wrongBoxes wrongWork commandOf commandBy rows maskRows
 filled-right u h e = rw (size-3, lt-leb 1024 (length h) e)
 
-filled-long : (u h : List ℕ) → length (sheetOf (filled u h)) ≡ 51 + length u + length h
+filled-long : (u h : List ℕ) → length (sheetOf (filled u h)) ≡ 56 + length u + length h
 unfolding filled
 filled-long u h = omega (arith, sheet-length (filled u h))
 

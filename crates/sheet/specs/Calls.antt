@@ -2,9 +2,9 @@
 use mathlib.Core.Path.{_≡_}
 use Prim.Native.Nat.{ℕ, _+_, _-_}
 use mathlib.Core.Bool.{Bool, true, false}
-use mathlib.Core.List.{List}
+use mathlib.Core.List.{List, [], _∷_}
 use mathlib.Core.Option.{Option, none, some}
-use lib.ListN.{length, replicate}
+use lib.ListN.{length, take, replicate}
 use lib.Dec.{leb}
 use Rattle.buffer.specs.Over.{over}
 use Rattle.fields.specs.Capacities.{mostTransfer, mostHeld}
@@ -20,12 +20,13 @@ use Rattle.registers.specs.declared.regs.Pending.{Pending}
 use Rattle.registers.specs.declared.regs.Switched.{Switched}
 use Rattle.registers.specs.Boxes.{Empty, Writing, World}
 use Rattle.registers.specs.View.{insideOf, frontOf}
+use Rattle.registers.specs.Settle.{noPending, trackIn, targetIn}
 use Rattle.sending.specs.Calls.{impossibleWith}
-use Rattle.sheet.specs.Sheets.{sheetOf, wrongBoxes, worldIn}
+use Rattle.sheet.specs.Sheets.{machineByte, sheetOf, wrongBoxes, worldIn}
 
--- the longest sheet: 31 bytes of numbers and lengths, a command of 8, a reply of 7, all data that can be lent, a write that lacks one byte
+-- the longest sheet: 36 bytes of numbers and lengths, a command of 8, a reply of 7, all data that can be lent, a write that lacks one byte
 abbrev pub longestSheet : ℕ
-longestSheet = 31 + 8 + 7 + mostTransfer + 5 + (mostHeld - 1)
+longestSheet = 36 + 8 + 7 + mostTransfer + 5 + (mostHeld - 1)
 
 -- boxes whose sheet is as long
 pub record Longest : Type 0 where
@@ -39,6 +40,11 @@ pub record Longest : Type 0 where
 -- the boxes that a controller shows, all but what is in the drive
 abbrev pub boxesSeen : Regs → List ℕ → List ℕ → World
 boxesSeen r h x = record { inside = insideOf r h Empty; front = frontOf r x }
+
+-- the box that a write's numbers make, where it is to stand
+abbrev pub workFor : Bool → Pending → List ℕ → List ℕ
+workFor true p h = p .c1 ∷ p .target .one ∷ p .target .two ∷ p .target .three ∷ p .target .four ∷ take (p .taken) h
+workFor false p h = []
 
 -- the sheet at the buffer's start, but 1 first
 abbrev pub unlessWrong : Bool → List ℕ → List ℕ → Penned
@@ -56,8 +62,8 @@ onZeros n x = over (replicate n 0) 0 x
 
 -- a write in progress, and the bytes that are held
 abbrev pub pendingFor : Option Writing → Pending
-pendingFor none = record { on = false; c1 = 0; id = record { c = 0; h = 0; r = 0; n = 0 }; taken = 0 }
-pendingFor (some w) = record { on = true; c1 = w .c1; id = w .id; taken = length (w .held) }
+pendingFor none = noPending
+pendingFor (some w) = record { on = true; c1 = w .c1; track = trackIn (w .goal); target = targetIn (w .goal); taken = length (w .held) }
 
 abbrev pub heldFor : Option Writing → List ℕ
 heldFor none = replicate mostHeld 0
@@ -78,6 +84,7 @@ regsFor w = record {
   index = w .inside .index;
   write = pendingFor (w .inside .write);
   drive = record { cylinder = w .inside .drives .first .cylinder; seek = w .front .seek; disk = false };
+  setting = machineByte (w .inside .setting .machine);
 }
 
 -- the boxes that a sheet holds; 11, then 9 for unread data over the transfer room

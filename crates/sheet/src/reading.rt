@@ -3,7 +3,6 @@ use codes::bytes_for;
 use codes::command_of;
 use fields::HELD;
 use fields::Refusal;
-use fields::SectorId;
 use fields::byte;
 use floppy::Changed;
 use floppy::Floppy;
@@ -13,20 +12,21 @@ use registers::Drive;
 use registers::Pending;
 use registers::Regs;
 use registers::Switched;
-use registers::fitted;
+use registers::Target;
 use store::Done;
 use store::transfer_room;
 ghost use mathlib.Core.Path.{_≡_};
-ghost use mathlib.Core.Bool.{true, false, _||_};
-ghost use Prim.Native.Nat.{_+_, _≤_, _<_, _^_};
+ghost use mathlib.Core.Bool.{Bool, true, false};
+ghost use Prim.Native.Nat.{_+_, _-_, _≤_, _<_, _^_};
 ghost use lib.ListN.{length};
-ghost use lib.Dec.{eqb, leb};
+ghost use lib.Dec.{leb};
 ghost use Rattle.fields.specs.Bytes.{byteAt};
 ghost use Rattle.fields.specs.Capacities.{mostTransfer, mostHeld};
 ghost use Rattle.codes.specs.Table.{commandOf, bytesFor};
 ghost use Rattle.layout.specs.Layout.{seekAt};
-ghost use Rattle.sheet.specs.Sheets.{highAt, boxAt, behind, placesOf, boxesAt, framed, oneTo, inRange, writeIf, worldFrom};
-ghost use Rattle.sheet.specs.Sheets.{wrongWriting, wrongBoxes};
+ghost use Rattle.registers.specs.Boxes.{settingOf};
+ghost use Rattle.sheet.specs.Sheets.{highAt, boxAt, behind, behindNew, isOld, placesOf, boxesAt, framed, oneTo, isWork, inRange, targetAt};
+ghost use Rattle.sheet.specs.Sheets.{inBox, eitherBox, noWrite, worldFrom, wrongWriting, wrongBoxes};
 ghost use Rattle.sheet.specs.Calls.{onZeros, pendingFor, heldFor, regsFor, takenFrom, whetherTaken, resuming, sheetRead};
 
 // Where the length of each box stands, and where the last box ends.
@@ -40,6 +40,8 @@ pub struct Places {
     pub unread: usize,
     pub lost: usize,
     pub write: usize,
+    pub machine: usize,
+    pub format: usize,
     pub end: usize,
 }
 
@@ -75,6 +77,24 @@ fn behind_four(s: &[u8], at: usize) -> usize
     at + 4 + high_four(s, at)
 }
 
+// The place behind a box that version 1 does not have.
+fn behind_new(s: &[u8], old: bool, at: usize) -> usize
+    requires { ⌜ at < 2 ^ 40 ⌝ }
+    ensures { λ r. ⌜ (r ≡ behindNew old (now (s .entry)) at) × (r < at + 65538) ⌝ }
+{
+    if old {
+        return at;
+    }
+    behind_two(s, at)
+}
+
+// Whether it is a sheet of version 1.
+fn is_old(s: &[u8]) -> bool
+    ensures { λ r. ⌜ r ≡ isOld (now (s .entry)) ⌝ }
+{
+    byte(s, 0) == 1
+}
+
 // Where the boxes stand, by the lengths that the sheet tells.
 fn locate(s: &[u8]) -> Places
     ensures { λ r. ⌜ r ≡ placesOf (now (s .entry)) ⌝ }
@@ -88,7 +108,10 @@ fn locate(s: &[u8]) -> Places
     let unread = behind_two(s, reply);
     let lost = behind_four(s, unread);
     let write = behind_two(s, lost);
-    let end = behind_two(s, write);
+    let machine = behind_two(s, write);
+    let old = is_old(s);
+    let format = behind_new(s, old, machine);
+    let end = behind_new(s, old, format);
     Places {
         motor,
         cylinder,
@@ -99,6 +122,8 @@ fn locate(s: &[u8]) -> Places
         unread,
         lost,
         write,
+        machine,
+        format,
         end,
     }
 }
@@ -116,17 +141,6 @@ fn box_four<'a>(s: &'a [u8], at: usize) -> &'a [u8]
 {
     let rest = buffer::tail(s, at);
     buffer::part(rest, 4, high_four(rest, 0))
-}
-
-// Whether version and lengths are those of a sheet whose last box ends at a place.
-fn is_framed(s: &[u8], end: usize) -> bool
-    requires { ⌜ end ≡ placesOf (now s) .end ⌝ }
-    ensures { λ r. ⌜ r ≡ framed (now (s .entry)) ⌝ }
-{
-    let version = byte(s, 0) == 1;
-    let rest = 5 + high_four(s, 1) == s.len();
-    let last = end == s.len();
-    version & (rest & last)
 }
 
 // ---- the boxes
@@ -148,9 +162,23 @@ fn one_to(x: &[u8], most: u8) -> bool
     x[0] <= most
 }
 
-// Whether the box of a write is empty, or has c1 and ID.
-fn is_write(x: &[u8]) -> bool
-    ensures { λ r. ⌜ r ≡ eqb (length (now (x .entry))) 0 || leb 5 (length (now (x .entry))) ⌝ }
+// Whether version and lengths are those of a sheet, whose last box ends where the bytes do, and one of version 2 has a machine.
+fn is_framed(s: &[u8], p: Places) -> bool
+    requires { ⌜ p ≡ placesOf (now s) ⌝ }
+    ensures { λ r. ⌜ r ≡ framed (now (s .entry)) ⌝ }
+{
+    let version = byte(s, 0);
+    let old = version == 1;
+    let new = version == 2;
+    let machine = one_to(box_two(s, p.machine), 1);
+    let rest = 5 + high_four(s, 1) == s.len();
+    let last = p.end == s.len();
+    (old | (new & machine)) & (rest & last)
+}
+
+// Whether the box of a write, or of a Format, is empty, or has its five numbers.
+fn is_work(x: &[u8]) -> bool
+    ensures { λ r. ⌜ r ≡ isWork (now (x .entry)) ⌝ }
 {
     if x.len() == 0 {
         return true;
@@ -167,41 +195,74 @@ fn in_range(s: &[u8], p: Places) -> bool
     let seek = one_to(box_two(s, p.seek), 2);
     let index = box_two(s, p.index).len() == 2;
     let lost = box_two(s, p.lost).len() == 1;
-    let write = is_write(box_two(s, p.write));
-    motor & (cylinder & (seek & (index & (lost & write))))
+    let write = box_two(s, p.write);
+    let format = box_two(s, p.format);
+    let alone = write.len() == 0 | (format.len() == 0);
+    motor & (cylinder & (seek & (index & (lost & (is_work(write) & (is_work(format) & alone))))))
 }
 
-// The ID in the box of a write.
-fn id_in(x: &[u8]) -> SectorId
-    requires { ⌜ 5 ≤ length (now x) ⌝ }
+// The write or the Format that is in a box: whether it is a Format's is told.
+fn pending_in(track: bool, x: &[u8]) -> Pending
+    requires { ⌜ (5 ≤ length (now x)) × (length (now x) < 65536) ⌝ }
     ensures { λ r. ⌜ r ≡ record {
-      c = byteAt (now (x .entry)) 1;
-      h = byteAt (now (x .entry)) 2;
-      r = byteAt (now (x .entry)) 3;
-      n = byteAt (now (x .entry)) 4;
+      on = true;
+      c1 = byteAt (now (x .entry)) 0;
+      track = track;
+      target = targetAt (now (x .entry));
+      taken = length (now (x .entry)) - 5;
     } ⌝ }
 {
-    SectorId {
-        c: x[1],
-        h: x[2],
-        r: x[3],
-        n: x[4],
+    let target = Target {
+        one: x[1],
+        two: x[2],
+        three: x[3],
+        four: x[4],
+    };
+    Pending {
+        on: true,
+        c1: x[0],
+        track,
+        target,
+        taken: (x.len() - 5) as u16,
     }
 }
 
-// A write that no controller has: as long as its sector, or longer, or for a drive that is not fitted.
-fn wrong_write(x: &[u8]) -> bool
-    requires { ⌜ eqb (length (now x)) 0 || leb 5 (length (now x)) ≡ true ⌝ }
-    ensures { λ r. ⌜ r ≡ wrongWriting (writeIf (eqb (length (now (x .entry))) 0) (now (x .entry))) ⌝ }
+// The write in progress, or none.
+fn pending_from(track: bool, x: &[u8]) -> Pending
+    requires { ⌜ (isWork (now x) ≡ true) × (length (now x) < 65536) ⌝ }
+    ensures { λ r. ⌜ r ≡ pendingFor (inBox track (now (x .entry))) ⌝ }
+{
+    if x.len() == 0 {
+        return Pending::none();
+    }
+    pending_in(track, x)
+}
+
+// Where the box of a write is empty, that of a Format counts.
+fn no_write(s: &[u8], p: Places) -> bool
+    ensures { λ r. ⌜ r ≡ noWrite (boxesAt (now (s .entry)) p) ⌝ }
+{
+    box_two(s, p.write).len() == 0
+}
+
+fn work_box<'a>(s: &'a [u8], p: Places) -> &'a [u8]
+    ensures { λ r. ⌜ now r ≡ eitherBox (noWrite (boxesAt (now (s .entry)) p)) (boxAt 2 (now (s .entry)) (p .write)) (boxAt 2 (now (s .entry)) (p .format)) ⌝ }
+{
+    if no_write(s, p) {
+        return box_two(s, p.format);
+    }
+    box_two(s, p.write)
+}
+
+// A write that no controller has with this setting.
+fn wrong_work(setting: u8, track: bool, x: &[u8]) -> bool
+    requires { ⌜ (isWork (now x) ≡ true) × (length (now x) < 65536) ⌝ }
+    ensures { λ r. ⌜ r ≡ wrongWriting (settingOf setting) (inBox track (now (x .entry))) ⌝ }
 {
     if x.len() == 0 {
         return false;
     }
-    let id = id_in(x);
-    if id.len() <= x.len() - 5 {
-        return true;
-    }
-    !fitted(x[0])
+    pending_in(track, x).wrong(setting)
 }
 
 // A command that is as long as it has bytes, or longer. Where nothing was sent, no table is asked.
@@ -222,7 +283,8 @@ fn wrong_boxes(s: &[u8], p: Places) -> bool
     let reply = 7 < box_two(s, p.reply).len();
     let command = wrong_command(box_two(s, p.command));
     let lost = 2 < first(box_two(s, p.lost));
-    let write = wrong_write(box_two(s, p.write));
+    let setting = first(box_two(s, p.machine));
+    let write = wrong_work(setting, no_write(s, p), work_box(s, p));
     reply | (command | (lost | write))
 }
 
@@ -247,38 +309,10 @@ fn reply_from(x: &[u8]) -> [u8; 7]
     reply
 }
 
-// The write in progress.
-fn pending_from(x: &[u8]) -> Pending
-    requires { ⌜ (eqb (length (now x)) 0 || leb 5 (length (now x)) ≡ true) × (length (now x) < 65536) ⌝ }
-    ensures { λ r. ⌜ r ≡ pendingFor (writeIf (eqb (length (now (x .entry))) 0) (now (x .entry))) ⌝ }
-{
-    if x.len() == 0 {
-        let id = SectorId {
-            c: 0,
-            h: 0,
-            r: 0,
-            n: 0,
-        };
-        return Pending {
-            on: false,
-            c1: 0,
-            id,
-            taken: 0,
-        };
-    }
-    let id = id_in(x);
-    Pending {
-        on: true,
-        c1: x[0],
-        id,
-        taken: (x.len() - 5) as u16,
-    }
-}
-
 // The bytes that it holds, with zeros behind them.
 fn lay_held(x: &[u8], held: &mut [u8])
     requires { ⌜ (length (now held) ≡ mostHeld) × (length (now x) ≤ 5 + mostHeld) ⌝ }
-    ensures { λ _. ⌜ now (held .exit) ≡ heldFor (writeIf (eqb (length (now (x .entry))) 0) (now (x .entry))) ⌝ }
+    ensures { λ _. ⌜ ((track : Bool) → now (held .exit) ≡ heldFor (inBox track (now (x .entry)))) ⌝ }
 {
     buffer::fill(held, 0, HELD, 0);
     buffer::copy_in(held, 0, buffer::tail(x, 5));
@@ -332,8 +366,9 @@ fn regs_from(s: &[u8], p: Places) -> Regs
         lost: number_in(s, p.lost),
         motor: flag_at(number_in(s, p.motor)),
         index: index_in(s, p.index),
-        write: pending_from(box_two(s, p.write)),
+        write: pending_from(no_write(s, p), work_box(s, p)),
         drive: drive_in(s, p),
+        setting: number_in(s, p.machine),
     }
 }
 
@@ -342,7 +377,7 @@ fn judge(s: &[u8], p: Places, transfer: &[u8]) -> Done
     requires { ⌜ p ≡ placesOf (now s) ⌝ }
     ensures { λ r. ⌜ r ≡ whetherTaken (takenFrom (now (s .entry)) (now (transfer .entry))) ⌝ }
 {
-    if !is_framed(s, p.end) {
+    if !is_framed(s, p) {
         return Done::Refused(Refusal::BadSheet);
     }
     if !in_range(s, p) {
@@ -370,7 +405,7 @@ pub fn read_parts(regs: Regs, held: &mut [u8], sheet: &[u8], transfer: &mut [u8]
     match done {
         Done::Refused(_) => Switched { done, regs },
         Done::Good => {
-            lay_held(box_two(sheet, p.write), held);
+            lay_held(work_box(sheet, p), held);
             buffer::copy_in(transfer, 0, box_four(sheet, p.unread));
             let after = regs_from(sheet, p);
             Switched { done, regs: after }

@@ -11,7 +11,7 @@ use store::Extent;
 ghost use mathlib.Core.Path.{_≡_};
 ghost use mathlib.Core.Bool.{true, false, cond};
 ghost use mathlib.Core.List.{[], _∷_};
-ghost use Prim.Native.Nat.{_+_, _-_, _≤_};
+ghost use Prim.Native.Nat.{_+_, _-_, _%_, _≤_};
 ghost use lib.ListN.{length, take};
 ghost use lib.Seq.{slice};
 ghost use Rattle.buffer.specs.Over.{over};
@@ -19,11 +19,11 @@ ghost use Rattle.store.specs.Calls.{penned};
 ghost use Rattle.registers.specs.View.{writingIf};
 ghost use Rattle.sending.specs.Calls.{impossibleWith};
 ghost use Rattle.layout.specs.Layout.{flagByte, seekByte};
-ghost use Rattle.sheet.specs.Sheets.{highFor, boxFor, writeBox, sheetVersion, sheetOf};
-ghost use Rattle.sheet.specs.Calls.{boxesSeen, sheetWritten};
+ghost use Rattle.sheet.specs.Sheets.{highFor, boxFor, writeBox, formatBox, sheetVersion, sheetOf};
+ghost use Rattle.sheet.specs.Calls.{boxesSeen, workFor, sheetWritten};
 
 // No sheet is longer.
-pub const LONGEST: usize = 31 + 8 + 7 + TRANSFER + 5 + (HELD - 1);
+pub const LONGEST: usize = 36 + 8 + 7 + TRANSFER + 5 + (HELD - 1);
 
 // What stands before the command: the version, the length of the rest, and the boxes of motor, cylinder, seek state and ID index.
 fn opening(r: Regs, rest: usize) -> [u8; 18]
@@ -34,7 +34,7 @@ fn opening(r: Regs, rest: usize) -> [u8; 18]
     let s = d.seek;
     let i = r.index;
     [
-        1,
+        2,
         (rest / 256 / 256 / 256 % 256) as u8,
         (rest / 256 / 256 % 256) as u8,
         (rest / 256 % 256) as u8,
@@ -86,30 +86,32 @@ fn put_long(sheet: &mut [u8], at: usize, x: &[u8]) -> usize
     at + 4 + n
 }
 
-// Lays the box of a write in progress: its c1, its ID and the bytes so far, or nothing.
-fn put_write(sheet: &mut [u8], at: usize, p: Pending, held: &[u8])
-    requires { ⌜ at + 2 + length (writeBox (writingIf (p .on) p (now held))) ≤ length (now sheet) ⌝ }
-    requires { ⌜ (p .on ≡ true → p .taken ≤ length (now held)) ⌝ }
-    ensures { λ _. ⌜ now (sheet .exit) ≡ over (now (sheet .entry)) at (boxFor 2 (writeBox (writingIf (p .on) p (now (held .entry)))) []) ⌝ }
+// Lays the box of a write in progress, c1, its four numbers and the bytes so far, if it is to stand here, else an empty one, and answers the place
+// behind it.
+fn put_work(sheet: &mut [u8], at: usize, here: bool, p: Pending, held: &[u8]) -> usize
+    requires { ⌜ at + 2 + length (workFor here p (now held)) ≤ length (now sheet) ⌝ }
+    requires { ⌜ (here ≡ true → p .taken ≤ length (now held)) ⌝ }
+    ensures { λ r. ⌜ (now (sheet .exit) ≡ over (now (sheet .entry)) at (boxFor 2 (workFor here p (now (held .entry))) []))
+        × (r ≡ at + 2 + length (workFor here p (now (held .entry)))) ⌝ }
 {
-    if !p.on {
-        put(sheet, at, &[]);
-        return;
+    if !here {
+        return put(sheet, at, &[]);
     }
     let taken = p.taken as usize;
     let n = 5 + taken;
-    let id = p.id;
+    let t = p.target;
     let head = [
         (n / 256 % 256) as u8,
         (n % 256) as u8,
         p.c1,
-        id.c,
-        id.h,
-        id.r,
-        id.n,
+        t.one,
+        t.two,
+        t.three,
+        t.four,
     ];
     buffer::copy_in(sheet, at, &head);
     buffer::copy_in(sheet, at + 7, &held[..taken]);
+    at + 2 + n
 }
 
 // How many bytes the box of a write has, and the whole sheet.
@@ -124,13 +126,13 @@ fn write_size(p: Pending) -> usize
 
 fn size(r: Regs) -> usize
     requires { ⌜ (r .place ≤ r .fill) × (r .from ≤ r .until) ⌝ }
-    ensures { λ n. ⌜ n ≡ 31 + r .count + (r .fill - r .place) + (r .until - r .from) + cond (r .write .on) (5 + r .write .taken) 0 ⌝ }
+    ensures { λ n. ⌜ n ≡ 36 + r .count + (r .fill - r .place) + (r .until - r .from) + cond (r .write .on) (5 + r .write .taken) 0 ⌝ }
 {
     let command = r.count as usize;
     let reply = (r.fill - r.place) as usize;
     let unread = (r.until - r.from) as usize;
     let write = write_size(r.write);
-    31 + command + reply + unread + write
+    36 + command + reply + unread + write
 }
 
 // Lays what stands before the unread data, command and reply last, and answers the place behind it.
@@ -154,19 +156,23 @@ fn lay_first(r: Regs, rest: usize, sheet: &mut [u8]) -> usize
     put(sheet, next, &reply[place..fill])
 }
 
-// Lays the unread data, the lost count and the write.
+// Lays the unread data, the lost count, the write, the machine and the Format.
 fn lay_rest(r: Regs, held: &[u8], transfer: &[u8], at: usize, sheet: &mut [u8])
     requires { ⌜ (r .from ≤ r .until) × (r .until ≤ length (now transfer)) ⌝ }
     requires { ⌜ (r .write .on ≡ true → r .write .taken ≤ length (now held)) ⌝ }
-    requires { ⌜ at + 9 + (r .until - r .from) + length (writeBox (writingIf (r .write .on) (r .write) (now held))) ≤ length (now sheet) ⌝ }
+    requires { ⌜ at + 9 + (r .until - r .from) + 5 + cond (r .write .on) (5 + r .write .taken) 0 ≤ length (now sheet) ⌝ }
     ensures { λ _. ⌜ now (sheet .exit) ≡ over (now (sheet .entry)) at (boxFor 4 (slice (r .from) (r .until) (now (transfer .entry)))
-        (boxFor 2 (r .lost ∷ []) (boxFor 2 (writeBox (writingIf (r .write .on) (r .write) (now (held .entry)))) []))) ⌝ }
+        (boxFor 2 (r .lost ∷ []) (boxFor 2 (writeBox (writingIf (r .write .on) (r .write) (now (held .entry))))
+        (boxFor 2 (r .setting % 2 ∷ []) (boxFor 2 (formatBox (writingIf (r .write .on) (r .write) (now (held .entry)))) []))))) ⌝ }
 {
     let from = r.from as usize;
     let until = r.until as usize;
     let next = put_long(sheet, at, &transfer[from..until]);
     let last = put(sheet, next, &[r.lost]);
-    put_write(sheet, last, r.write, held);
+    let p = r.write;
+    let machine = put_work(sheet, last, p.on & !p.track, p, held);
+    let format = put(sheet, machine, &[r.setting % 2]);
+    put_work(sheet, format, p.on & p.track, p, held);
 }
 
 // Lays the whole sheet, so many bytes, at the buffer's start.
