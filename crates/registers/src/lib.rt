@@ -17,4 +17,6 @@ pub use regs::Target;
 pub use regs::Told;
 pub use regs::Written;
 pub use regs::fitted;
+pub use regs::goal_of;
 pub use regs::is_rust;
+pub use regs::wrong_work;

@@ -14,7 +14,7 @@ ghost use lib.Dec.{leb};
 ghost use Rattle.fields.specs.Capacities.{mostHeld};
 ghost use Rattle.codes.specs.Table.{commandOf, bytesFor};
 ghost use Rattle.registers.specs.Boxes.{settingOf, wholeOf, silent, serves, fitted, seven, Add, Hold, Clear, Turn, Start, Finish, MoveTo};
-ghost use Rattle.registers.specs.View.{goalOf, isRust, unknownTo, impossible, wrongWork, wrongWrite};
+ghost use Rattle.registers.specs.View.{goalIf, goalOf, isRust, unknownTo, impossible, wrongWork, wrongWrite};
 ghost use Rattle.registers.specs.Settle.{accepted, declined, driveNamed, replied, regsWithDrive, noPending, trackIn, targetIn, pendingWith, regsTaken, regsChanged, kept};
 
 // The state of the last seek.
@@ -128,6 +128,42 @@ pub fn is_rust(setting: u8) -> bool
     setting % 2 == 0
 }
 
+// What is written, of a track or not, by its four numbers.
+pub fn goal_of(track: bool, t: Target) -> Goal
+    ensures { λ r. ⌜ r ≡ goalIf track t ⌝ }
+{
+    if track {
+        let shape = Shape {
+            size: t.one,
+            sectors: t.two,
+            gap: t.three,
+            filler: t.four,
+        };
+        return Goal::IntoTrack(shape);
+    }
+    let id = SectorId {
+        c: t.one,
+        h: t.two,
+        r: t.three,
+        n: t.four,
+    };
+    Goal::IntoSector(id)
+}
+
+// Numbers that no write in progress has, with a setting: as many bytes as it takes, or more, a drive that is not fitted, or a Format in the Rust
+// machine.
+pub fn wrong_work(setting: u8, c1: u8, goal: Goal, taken: usize) -> bool
+    ensures { λ r. ⌜ r ≡ wrongWork (settingOf setting) c1 goal taken ⌝ }
+{
+    if goal.whole() <= taken {
+        return true;
+    }
+    if !fitted(c1) {
+        return true;
+    }
+    goal.unknown_to(setting)
+}
+
 // Whether a command names a drive that is fitted: drive 0.
 pub fn fitted(c1: u8) -> bool
     ensures { λ r. ⌜ r ≡ fitted c1 ⌝ }
@@ -210,37 +246,7 @@ impl Pending {
     pub fn goal(self) -> Goal
         ensures { λ r. ⌜ r ≡ goalOf self ⌝ }
     {
-        let t = self.target;
-        if self.track {
-            let shape = Shape {
-                size: t.one,
-                sectors: t.two,
-                gap: t.three,
-                filler: t.four,
-            };
-            return Goal::IntoTrack(shape);
-        }
-        let id = SectorId {
-            c: t.one,
-            h: t.two,
-            r: t.three,
-            n: t.four,
-        };
-        Goal::IntoSector(id)
-    }
-
-    // Numbers that it does not have, with a setting, while it is in progress.
-    pub fn wrong(self, setting: u8) -> bool
-        ensures { λ r. ⌜ r ≡ wrongWork (settingOf setting) (self .c1) (goalOf self) (self .taken) ⌝ }
-    {
-        let goal = self.goal();
-        if goal.whole() <= self.taken as usize {
-            return true;
-        }
-        if !fitted(self.c1) {
-            return true;
-        }
-        goal.unknown_to(setting)
+        goal_of(self.track, self.target)
     }
 
     // In progress or not, with so many bytes held.
@@ -278,7 +284,7 @@ impl Regs {
         if !p.on {
             return false;
         }
-        p.wrong(self.setting)
+        wrong_work(self.setting, p.c1, p.goal(), p.taken as usize)
     }
 
     // Numbers that no controller has.

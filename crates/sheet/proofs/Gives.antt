@@ -47,7 +47,7 @@ first-same (b ∷ x) = refl
 -- ---- the numbers of the controller
 
 -- the machine, by its number
-setting-same : (x : Setting) → settingOf (machineByte (x .machine)) ≡ x
+pub setting-same : (x : Setting) → settingOf (machineByte (x .machine)) ≡ x
 setting-same x = go (x .machine)
   where
     go : (m : Machine) → _≡_ {A = Setting} (settingOf (machineByte m)) (record { machine = m })

@@ -1,11 +1,10 @@
 -- What the proofs of the reader cite: the tests that it makes, and where they lead.
-use mathlib.Core.Path.{_≡_, refl, sym, ap, _∙_, subst}
+use mathlib.Core.Path.{_≡_, refl, sym, ap, ap₂, _∙_, subst}
 use Prim.Native.Nat.{ℕ, zero, suc, _+_, _*_, _-_, _^_, _≤_, _<_}
 use native.Mathlib.Nat.{add-zero}
 use native.Mathlib.Omega.{arith}
 use mathlib.Core.Bool.{Bool, true, false, not, _&&_, _||_}
 use mathlib.Core.List.{List, [], _++_, append-nil}
-use mathlib.Core.Option.{Option}
 use lib.ListN.{length, take, drop, replicate, length-drop, length-replicate, drop-of-length-le}
 use lib.Seq.{getD-drop, drop-drop}
 use lib.Dec.{eqb, leb, ltb}
@@ -14,16 +13,14 @@ use Rattle.buffer.specs.Over.{over}
 use Rattle.buffer.proofs.Overs.{over-nil, over-front}
 use Rattle.fields.specs.Bytes.{byteAt}
 use Rattle.fields.specs.Capacities.{mostTransfer, mostHeld}
-use Rattle.fields.specs.Model.{sizeOf}
 use Rattle.fields.specs.Refusals.{Result, refused, good, need, after}
-use Rattle.fields.specs.declared.id.SectorId.{SectorId}
 use Rattle.fields.specs.declared.refusal.Refusal.{Refusal}
 use Rattle.fields.specs.declared.refusal.Refusal.the-variants.{BadSheet, NoTransferRoom}
 use Rattle.store.specs.Store.{transferRoom}
 use Rattle.store.proofs.Checks.{transfer-in}
 use Rattle.store.specs.declared.answer.Done.{Done}
 use Rattle.store.specs.declared.answer.Done.the-variants as done
-use Rattle.fields.proofs.Tests.{and-snd, never}
+use Rattle.fields.proofs.Tests.{and-fst, and-snd, never}
 use Rattle.codes.specs.declared.command.Command.{Command}
 use Rattle.codes.specs.Table.{commandOf, bytesFor}
 use Rattle.codes.proofs.Rows.{bytes-range}
@@ -31,10 +28,15 @@ use Rattle.registers.specs.declared.regs.Drive.{Drive}
 use Rattle.registers.specs.declared.regs.Pending.{Pending}
 use Rattle.registers.specs.declared.regs.Regs.{Regs}
 use Rattle.registers.specs.declared.regs.Seek.{Seek}
-use Rattle.registers.specs.Boxes.{Writing, World, fitted}
+use Rattle.registers.specs.declared.regs.Goal.{Goal}
+use Rattle.registers.specs.declared.regs.Target.{Target}
+use Rattle.registers.specs.Boxes.{Setting, settingOf, Writing, World}
+use Rattle.registers.specs.View.{goalIf, wrongWork}
+use Rattle.registers.specs.Settle.{noPending, trackIn, targetIn}
 use Rattle.layout.specs.Layout.{flagAt, seekAt}
 use Rattle.sheet.specs.declared.reading.Places.{Places}
-use Rattle.sheet.specs.Sheets.{highAt, boxAt, behind, placesOf, boxesAt, framed, Sheet, oneTo, inRange, writeIf, worldFrom, wrongWriting, wrongBoxes, sheetAt, worldIn}
+use Rattle.sheet.specs.Sheets.{highAt, boxAt, behind, behindNew, isOld, placesOf, boxesAt, framed, Sheet, machineByte, oneTo, isWork, inRange, targetAt, workIf, inBox}
+use Rattle.sheet.specs.Sheets.{eitherBox, noWrite, worldFrom, wrongWriting, wrongBoxes, sheetAt, worldIn}
 use Rattle.sheet.specs.Calls.{onZeros, pendingFor, heldFor, regsFor, takenFrom, whetherTaken, resuming, resumedAs, sheetRead}
 use Rattle.sheet.proofs.Gives.{held-few, command-few, reply-few, write-fits}
 
@@ -66,20 +68,35 @@ box-part width s rest r at n e f q =
     let z : n ≡ highAt width s at = f ∙ ap (λ (y : List ℕ). highAt width y 0) e ∙ high-rest width s at 0 ∙ ap (highAt width s) (add-zero at) in
     q ∙ (λ i. take (z i) (drop width (e i))) ∙ ap (take (highAt width s at)) (drop-drop width at s)
 
--- the three tests of the form
-pub framed-is : (s : List ℕ) (v n end : ℕ) → v ≡ byteAt s 0 → n ≡ highAt 4 s 1 → end ≡ placesOf s .end
-    → (eqb v 1 && (eqb (5 + n) (length s) && eqb end (length s))) ≡ framed s
-unfolding framed
-framed-is s v n end e f g = λ i. eqb (e i) 1 && (eqb (5 + f i) (length s) && eqb (g i) (length s))
+-- the tests of the form
+pub framed-is : (s : List ℕ) (p : Places) (v n : ℕ) (x : List ℕ) (m : Bool) → p ≡ placesOf s → v ≡ byteAt s 0 → n ≡ highAt 4 s 1
+    → x ≡ boxAt 2 s (p .machine) → m ≡ oneTo 1 x → ((eqb v 1 || (eqb v 2 && m)) && (eqb (5 + n) (length s) && eqb (p .end) (length s))) ≡ framed s
+unfolding framed sheetAt
+framed-is s p v n x m q e f g h =
+    let m′ : m ≡ oneTo 1 (boxAt 2 s (placesOf s .machine)) = h ∙ ap (oneTo 1) (g ∙ ap (λ (y : Places). boxAt 2 s (y .machine)) q) in
+    λ i. (eqb (e i) 1 || (eqb (e i) 2 && m′ i)) && (eqb (5 + f i) (length s) && eqb (q i .end) (length s))
 
 -- the places, one behind another
-pub places-are : (s : List ℕ) (cylinder seek index command reply unread lost write end : ℕ)
+pub places-are : (s : List ℕ) (old : Bool) (cylinder seek index command reply unread lost write machine format end : ℕ)
     → cylinder ≡ behind 2 s 5 → seek ≡ behind 2 s cylinder → index ≡ behind 2 s seek → command ≡ behind 2 s index → reply ≡ behind 2 s command
-    → unread ≡ behind 2 s reply → lost ≡ behind 4 s unread → write ≡ behind 2 s lost → end ≡ behind 2 s write
-    → record { motor = 5; cylinder = cylinder; seek = seek; index = index; command = command; reply = reply; unread = unread; lost = lost; write = write; end = end }
-    ≡ placesOf s
+    → unread ≡ behind 2 s reply → lost ≡ behind 4 s unread → write ≡ behind 2 s lost → machine ≡ behind 2 s write → old ≡ isOld s
+    → format ≡ behindNew old s machine → end ≡ behindNew old s format
+    → record {
+      motor = 5;
+      cylinder = cylinder;
+      seek = seek;
+      index = index;
+      command = command;
+      reply = reply;
+      unread = unread;
+      lost = lost;
+      write = write;
+      machine = machine;
+      format = format;
+      end = end;
+    } ≡ placesOf s
 unfolding placesOf
-places-are s cylinder seek index command reply unread lost write end a b c d e f g h k =
+places-are s old cylinder seek index command reply unread lost write machine format end a b c d e f g h k o l m =
     let b′ = b ∙ ap (behind 2 s) a in
     let c′ = c ∙ ap (behind 2 s) b′ in
     let d′ = d ∙ ap (behind 2 s) c′ in
@@ -88,49 +105,61 @@ places-are s cylinder seek index command reply unread lost write end a b c d e f
     let g′ = g ∙ ap (behind 4 s) f′ in
     let h′ = h ∙ ap (behind 2 s) g′ in
     let k′ = k ∙ ap (behind 2 s) h′ in
-    λ i. record { motor = 5; cylinder = a i; seek = b′ i; index = c′ i; command = d′ i; reply = e′ i; unread = f′ i; lost = g′ i; write = h′ i; end = k′ i }
+    let l′ = l ∙ ap₂ (λ (v : Bool) (n : ℕ). behindNew v s n) o k′ in
+    let m′ = m ∙ ap₂ (λ (v : Bool) (n : ℕ). behindNew v s n) o l′ in
+    λ i. record {
+      motor = 5;
+      cylinder = a i;
+      seek = b′ i;
+      index = c′ i;
+      command = d′ i;
+      reply = e′ i;
+      unread = f′ i;
+      lost = g′ i;
+      write = h′ i;
+      machine = k′ i;
+      format = l′ i;
+      end = m′ i;
+    }
 
 -- ---- the box of a write
 
--- the test that it is empty, or has c1 and ID
-abbrev pub IsWrite : List ℕ → Type 0
-IsWrite x = (eqb (length x) 0 || leb 5 (length x)) ≡ true
-
--- the write that it holds
-abbrev pub inBox : List ℕ → Option Writing
-inBox x = writeIf (eqb (length x) 0) x
-
-abbrev pub IdIn : List ℕ → SectorId
-IdIn x = record { c = byteAt x 1; h = byteAt x 2; r = byteAt x 3; n = byteAt x 4 }
-
-pub five-there : (x : List ℕ) → IsWrite x → (length x ≡ 0 → ⊥) → 5 ≤ length x
+pub five-there : (x : List ℕ) → isWork x ≡ true → (length x ≡ 0 → ⊥) → 5 ≤ length x
 five-there x e q =
     let z : leb 5 (length x) ≡ true = subst (λ (v : Bool). (v || leb 5 (length x)) ≡ true) (ne-eqb (length x) 0 q) e in
     leb-true 5 (length x) z
 
-pub wrong-none : (x : List ℕ) → length x ≡ 0 → false ≡ wrongWriting (inBox x)
-wrong-none x e = rw (eq-eqb (length x) 0 e) refl
+pub wrong-none : (y : Setting) (t : Bool) (x : List ℕ) → length x ≡ 0 → false ≡ wrongWriting y (inBox t x)
+wrong-none y t x e = rw (eq-eqb (length x) 0 e) refl
 
-module _ (x : List ℕ) (q : length x ≡ 0 → ⊥) (id : SectorId) (e : id ≡ IdIn x) (n : ℕ) (f : n ≡ sizeOf (id .n)) where
-  size-is : sizeOf (byteAt x 4) ≡ n
-  size-is = sym (f ∙ ap (λ (i : SectorId). sizeOf (i .n)) e)
+-- the test of a write that is there
+pub wrong-some : (y : Setting) (t : Bool) (x : List ℕ) (z : Target) (g : Goal) (v : Bool) → (length x ≡ 0 → ⊥) → z ≡ targetAt x → g ≡ goalIf t z
+    → v ≡ wrongWork y (byteAt x 0) g (length x - 5) → v ≡ wrongWriting y (inBox t x)
+wrong-some y t x z g v q e f h =
+    let g′ : g ≡ goalIf t (targetAt x) = f ∙ ap (goalIf t) e in
+    rw (ne-eqb (length x) 0 q) (h ∙ (λ i. wrongWork y (byteAt x 0) (g′ i) (sym (length-drop 5 x) i)))
 
-  pub wrong-full : n ≤ length x - 5 → true ≡ wrongWriting (inBox x)
-  wrong-full h =
-      let t : leb (sizeOf (byteAt x 4)) (length (drop 5 x)) ≡ true = le-leb (sizeOf (byteAt x 4)) (length (drop 5 x)) (omega (arith, length-drop 5 x, size-is)) in
-      rw (ne-eqb (length x) 0 q, t) refl
+pub pending-none : (t : Bool) (x : List ℕ) (p : Pending) → length x ≡ 0 → p ≡ noPending → p ≡ pendingFor (inBox t x)
+pending-none t x p e f = rw (eq-eqb (length x) 0 e) f
 
-  pub wrong-drive : (v : Bool) → length x - 5 < n → v ≡ fitted (byteAt x 0) → not v ≡ wrongWriting (inBox x)
-  wrong-drive v h g =
-      let t : leb (sizeOf (byteAt x 4)) (length (drop 5 x)) ≡ false = lt-leb (sizeOf (byteAt x 4)) (length (drop 5 x)) (omega (arith, length-drop 5 x, size-is)) in
-      rw (ne-eqb (length x) 0 q, t) (ap not g)
+-- what is written has the numbers that it was made from
+track-same : (t : Bool) (z : Target) → t ≡ trackIn (goalIf t z)
+track-same true z = refl
+track-same false z = refl
 
-pub pending-none : (x : List ℕ) → length x ≡ 0 → record { on = false; c1 = 0; id = record { c = 0; h = 0; r = 0; n = 0 }; taken = 0 } ≡ pendingFor (inBox x)
-pending-none x e = rw (eq-eqb (length x) 0 e) refl
+target-same : (t : Bool) (z : Target) → z ≡ targetIn (goalIf t z)
+target-same true z = refl
+target-same false z = refl
 
-pub pending-some : (x : List ℕ) (id : SectorId) → (length x ≡ 0 → ⊥) → id ≡ IdIn x
-    → record { on = true; c1 = byteAt x 0; id = id; taken = length x - 5 } ≡ pendingFor (inBox x)
-pending-some x id q e = rw (ne-eqb (length x) 0 q) (λ i. record { on = true; c1 = byteAt x 0; id = e i; taken = sym (length-drop 5 x) i })
+pub pending-some : (t : Bool) (x : List ℕ) (z : Target) → (length x ≡ 0 → ⊥) → z ≡ targetAt x
+    → record { on = true; c1 = byteAt x 0; track = t; target = z; taken = length x - 5 } ≡ pendingFor (inBox t x)
+pending-some t x z q e = rw (ne-eqb (length x) 0 q) (λ i. record {
+  on = true;
+  c1 = byteAt x 0;
+  track = track-same t (targetAt x) i;
+  target = (e ∙ target-same t (targetAt x)) i;
+  taken = sym (length-drop 5 x) i;
+})
 
 -- the held bytes: zeros, and over them what stands behind c1 and ID
 zeros-laid : (h : List ℕ) → length h ≡ mostHeld → over h 0 (replicate mostHeld 0) ≡ replicate mostHeld 0
@@ -145,12 +174,13 @@ tail-fits x y h f e k l g =
     let n : length f ≡ mostHeld = ap length (g ∙ zeros-laid h l) ∙ length-replicate {A = ℕ} mostHeld 0 in
     omega (arith, z, n)
 
-pub held-laid : (x y h f b : List ℕ) → length h ≡ mostHeld → f ≡ over h 0 (replicate mostHeld 0) → y ≡ drop 5 x → b ≡ over f 0 y → b ≡ heldFor (inBox x)
-held-laid x y h f b l e g q =
+pub held-laid : (x y h f b : List ℕ) → length h ≡ mostHeld → f ≡ over h 0 (replicate mostHeld 0) → y ≡ drop 5 x → b ≡ over f 0 y
+    → (t : Bool) → b ≡ heldFor (inBox t x)
+held-laid x y h f b l e g q tr =
     let z : b ≡ over (replicate mostHeld 0) 0 (drop 5 x) = q ∙ (λ i. over ((e ∙ zeros-laid h l) i) 0 (g i)) in
     z ∙ go (eqb (length x) 0) refl
   where
-    go : (v : Bool) → eqb (length x) 0 ≡ v → over (replicate mostHeld 0) 0 (drop 5 x) ≡ heldFor (writeIf v x)
+    go : (v : Bool) → eqb (length x) 0 ≡ v → over (replicate mostHeld 0) 0 (drop 5 x) ≡ heldFor (workIf tr v x)
     go true t =
         let n : drop 5 x ≡ [] = drop-of-length-le x {i = 5} (omega (arith, eqb-true (length x) 0 t)) in
         ap (over (replicate mostHeld 0) 0) n ∙ over-nil (replicate mostHeld 0) 0
@@ -158,23 +188,31 @@ held-laid x y h f b l e g q =
 
 -- ---- boxes that are right
 
--- the box of a write that is one is no longer than c1, ID and what can be held
-write-few : (x : List ℕ) → wrongWriting (inBox x) ≡ false → length x ≤ 5 + mostHeld
-write-few x e = go (eqb (length x) 0) refl
+-- the box of a write that is one is no longer than its five numbers and what can be held
+work-few : (y : Setting) (tr : Bool) (x : List ℕ) → wrongWriting y (inBox tr x) ≡ false → length x ≤ 5 + mostHeld
+work-few y tr x e = go (eqb (length x) 0) refl
   where
     go : (v : Bool) → eqb (length x) 0 ≡ v → length x ≤ 5 + mostHeld
     go true t = omega (arith, eqb-true (length x) 0 t)
     go false t =
-        let w : Writing = record { c1 = byteAt x 0; id = IdIn x; held = drop 5 x } in
-        omega (arith, held-few w (subst (λ (v : Bool). wrongWriting (writeIf v x) ≡ false) t e), length-drop 5 x)
+        let w : Writing = record { c1 = byteAt x 0; goal = goalIf tr (targetAt x); held = drop 5 x } in
+        omega (arith, held-few y w (subst (λ (v : Bool). wrongWriting y (workIf tr v x) ≡ false) t e), length-drop 5 x)
 
-range-write : (p : Sheet) → inRange p ≡ true → IsWrite (p .write)
+-- the box that counts, of a write or of a Format, has its form
+range-work : (p : Sheet) → inRange p ≡ true → isWork (eitherBox (noWrite p) (p .write) (p .format)) ≡ true
 unfolding inRange
-range-write p e =
-    let t : Bool = eqb (length (p .lost)) 1 && (eqb (length (p .write)) 0 || leb 5 (length (p .write))) in
-    let u : Bool = oneTo 2 (p .seek) && (eqb (length (p .index)) 2 && t) in
-    let z = and-snd (oneTo 2 (p .seek)) (eqb (length (p .index)) 2 && t) (and-snd (eqb (length (p .cylinder)) 1) u (and-snd (oneTo 1 (p .motor)) (eqb (length (p .cylinder)) 1 && u) e)) in
-    and-snd (eqb (length (p .lost)) 1) (eqb (length (p .write)) 0 || leb 5 (length (p .write))) (and-snd (eqb (length (p .index)) 2) t z)
+range-work p e =
+    let e1 = and-snd (oneTo 1 (p .motor)) _ e in
+    let e2 = and-snd (eqb (length (p .cylinder)) 1) _ e1 in
+    let e3 = and-snd (oneTo 2 (p .seek)) _ e2 in
+    let e4 = and-snd (eqb (length (p .index)) 2) _ e3 in
+    let e5 = and-snd (eqb (length (p .lost)) 1) _ e4 in
+    let e6 = and-snd (isWork (p .write)) _ e5 in
+    go (noWrite p) (and-fst (isWork (p .write)) _ e5) (and-fst (isWork (p .format)) _ e6)
+  where
+    go : (v : Bool) → isWork (p .write) ≡ true → isWork (p .format) ≡ true → isWork (eitherBox v (p .write) (p .format)) ≡ true
+    go true a b = b
+    go false a b = a
 
 -- ---- the command
 
@@ -195,29 +233,46 @@ pub index-is : (s : List ℕ) (at n : ℕ) (x : List ℕ) → x ≡ boxAt 2 s at
 index-is s at n x e f = f ∙ ap (λ (y : List ℕ). highAt 2 y 0) e
 
 module _ (s : List ℕ) (p : Places) where
-  pub range-is : (a b c d e f : List ℕ) (u v w : Bool)
+  pub range-is : (a b c d e f g : List ℕ) (u v w y : Bool)
       → a ≡ boxAt 2 s (p .motor) → b ≡ boxAt 2 s (p .cylinder) → c ≡ boxAt 2 s (p .seek) → d ≡ boxAt 2 s (p .index) → e ≡ boxAt 2 s (p .lost)
-      → f ≡ boxAt 2 s (p .write) → u ≡ oneTo 1 a → v ≡ oneTo 2 c → w ≡ (eqb (length f) 0 || leb 5 (length f))
-      → (u && (eqb (length b) 1 && (v && (eqb (length d) 2 && (eqb (length e) 1 && w))))) ≡ inRange (boxesAt s p)
+      → f ≡ boxAt 2 s (p .write) → g ≡ boxAt 2 s (p .format) → u ≡ oneTo 1 a → v ≡ oneTo 2 c → w ≡ isWork f → y ≡ isWork g
+      → (u && (eqb (length b) 1 && (v && (eqb (length d) 2 && (eqb (length e) 1 && (w && (y && (eqb (length f) 0 || eqb (length g) 0))))))))
+      ≡ inRange (boxesAt s p)
   unfolding inRange
-  range-is a b c d e f u v w ea eb ec ed ee ef eu ev ew =
+  range-is a b c d e f g u v w y ea eb ec ed ee ef eg eu ev ew ey =
       let u′ = eu ∙ ap (oneTo 1) ea in
       let v′ = ev ∙ ap (oneTo 2) ec in
-      let w′ = ew ∙ ap (λ (x : List ℕ). eqb (length x) 0 || leb 5 (length x)) ef in
-      λ i. u′ i && (eqb (length (eb i)) 1 && (v′ i && (eqb (length (ed i)) 2 && (eqb (length (ee i)) 1 && w′ i))))
+      let w′ = ew ∙ ap isWork ef in
+      let y′ = ey ∙ ap isWork eg in
+      λ i. u′ i && (eqb (length (eb i)) 1 && (v′ i && (eqb (length (ed i)) 2 && (eqb (length (ee i)) 1 && (w′ i && (y′ i && (eqb (length (ef i)) 0 || eqb (length (eg i)) 0)))))))
 
-  pub right-write : (x : List ℕ) → x ≡ boxAt 2 s (p .write) → inRange (boxesAt s p) ≡ true → IsWrite x
-  right-write x e q = subst IsWrite (sym e) (range-write (boxesAt s p) q)
+  abbrev pub WorkBox : List ℕ
+  WorkBox = eitherBox (noWrite (boxesAt s p)) (boxAt 2 s (p .write)) (boxAt 2 s (p .format))
 
-  pub wrong-tests : (a b c d : List ℕ) (n : ℕ) (u v : Bool)
-      → a ≡ boxAt 2 s (p .reply) → b ≡ boxAt 2 s (p .command) → c ≡ boxAt 2 s (p .lost) → d ≡ boxAt 2 s (p .write)
-      → u ≡ leb (bytesFor (commandOf (byteAt b 0))) (length b) → n ≡ byteAt c 0 → v ≡ wrongWriting (inBox d)
-      → (ltb 7 (length a) || (u || (ltb 2 n || v))) ≡ wrongBoxes (worldFrom (boxesAt s p))
+  pub right-work : (x : List ℕ) → x ≡ WorkBox → inRange (boxesAt s p) ≡ true → isWork x ≡ true
+  right-work x e q = subst (λ (y : List ℕ). isWork y ≡ true) (sym e) (range-work (boxesAt s p) q)
+
+  -- which of the two counts
+  pub none-written : (x : List ℕ) → x ≡ boxAt 2 s (p .write) → eqb (length x) 0 ≡ noWrite (boxesAt s p)
+  none-written x e = ap (λ (y : List ℕ). eqb (length y) 0) e
+
+  pub format-box : (v : Bool) (x : List ℕ) → v ≡ noWrite (boxesAt s p) → v ≡ true → x ≡ boxAt 2 s (p .format) → x ≡ WorkBox
+  format-box v x e t q = q ∙ sym (ap (λ (f : Bool). eitherBox f (boxAt 2 s (p .write)) (boxAt 2 s (p .format))) (sym e ∙ t))
+
+  pub write-box : (v : Bool) (x : List ℕ) → v ≡ noWrite (boxesAt s p) → v ≡ false → x ≡ boxAt 2 s (p .write) → x ≡ WorkBox
+  write-box v x e t q = q ∙ sym (ap (λ (f : Bool). eitherBox f (boxAt 2 s (p .write)) (boxAt 2 s (p .format))) (sym e ∙ t))
+
+  pub wrong-tests : (a b c d k : List ℕ) (n m : ℕ) (u v t : Bool)
+      → a ≡ boxAt 2 s (p .reply) → b ≡ boxAt 2 s (p .command) → c ≡ boxAt 2 s (p .lost) → d ≡ WorkBox → k ≡ boxAt 2 s (p .machine)
+      → u ≡ leb (bytesFor (commandOf (byteAt b 0))) (length b) → n ≡ byteAt c 0 → m ≡ byteAt k 0 → t ≡ noWrite (boxesAt s p)
+      → v ≡ wrongWriting (settingOf m) (inBox t d) → (ltb 7 (length a) || (u || (ltb 2 n || v))) ≡ wrongBoxes (worldFrom (boxesAt s p))
   unfolding wrongBoxes worldFrom
-  wrong-tests a b c d n u v ea eb ec ed eu en ev =
+  wrong-tests a b c d k n m u v t ea eb ec ed ek eu en em et ev =
       let u′ = eu ∙ ap (λ (x : List ℕ). leb (bytesFor (commandOf (byteAt x 0))) (length x)) eb in
       let n′ = en ∙ ap (λ (x : List ℕ). byteAt x 0) ec in
-      let v′ = ev ∙ ap (λ (x : List ℕ). wrongWriting (inBox x)) ed in
+      let m′ = em ∙ ap (λ (x : List ℕ). byteAt x 0) ek in
+      let v′ : v ≡ wrongWriting (settingOf (byteAt (boxAt 2 s (p .machine)) 0)) (inBox (noWrite (boxesAt s p)) WorkBox)
+      = ev ∙ (λ i. wrongWriting (settingOf (m′ i)) (inBox (et i) (ed i))) in
       λ i. ltb 7 (length (ea i)) || (u′ i || (ltb 2 (n′ i) || v′ i))
 
   -- what the registers are made of, where the boxes are right
@@ -230,9 +285,10 @@ module _ (s : List ℕ) (p : Places) where
     unfolding worldFrom
     reply-fits x e = omega (arith, reply-few (worldFrom (boxesAt s p)) w, ap length e)
 
-    pub write-long : (x : List ℕ) → x ≡ boxAt 2 s (p .write) → length x ≤ 5 + mostHeld
+    pub work-long : (x : List ℕ) → x ≡ WorkBox → length x ≤ 5 + mostHeld
     unfolding worldFrom
-    write-long x e = omega (arith, write-few (boxAt 2 s (p .write)) (write-fits (worldFrom (boxesAt s p)) w), ap length e)
+    work-long x e =
+        omega (arith, work-few (settingOf (byteAt (boxAt 2 s (p .machine)) 0)) (noWrite (boxesAt s p)) WorkBox (write-fits (worldFrom (boxesAt s p)) w), ap length e)
 
     -- and that their lengths fit the numbers
     pub command-small : (x : List ℕ) → x ≡ boxAt 2 s (p .command) → length x < 256
@@ -241,8 +297,8 @@ module _ (s : List ℕ) (p : Places) where
     pub reply-small : (x : List ℕ) → x ≡ boxAt 2 s (p .reply) → length x < 256
     reply-small x e = omega (arith, reply-fits x e)
 
-    pub write-small : (x : List ℕ) → x ≡ boxAt 2 s (p .write) → length x < 65536
-    write-small x e = omega (arith, write-long x e)
+    pub work-small : (x : List ℕ) → x ≡ WorkBox → length x < 65536
+    work-small x e = omega (arith, work-long x e)
 
   pub unread-small : (x : List ℕ) → x ≡ boxAt 4 s (p .unread) → length (boxAt 4 s (p .unread)) ≤ mostTransfer → length x < 4294967296
   unread-small x e h = omega (arith, h, ap length e)
@@ -253,10 +309,10 @@ module _ (s : List ℕ) (p : Places) where
       (record { cylinder = byteAt (boxAt 2 s (p .cylinder)) 0; seek = seekAt (byteAt (boxAt 2 s (p .seek)) 0); disk = false })
   drive-is c k seek e f g = λ i. record { cylinder = e i; seek = (g ∙ ap seekAt f) i; disk = false }
 
-  pub regs-are : (command reply unread write lc lr : List ℕ) (n m k : ℕ) (f : Bool) (pending : Pending) (drive : Drive)
+  pub regs-are : (command reply unread write lc lr : List ℕ) (n m k y : ℕ) (f t : Bool) (pending : Pending) (drive : Drive)
       → command ≡ boxAt 2 s (p .command) → reply ≡ boxAt 2 s (p .reply) → unread ≡ boxAt 4 s (p .unread) → lc ≡ onZeros 9 command → lr ≡ onZeros 7 reply
       → n ≡ byteAt (boxAt 2 s (p .lost)) 0 → m ≡ byteAt (boxAt 2 s (p .motor)) 0 → f ≡ flagAt m → k ≡ highAt 2 (boxAt 2 s (p .index)) 0
-      → write ≡ boxAt 2 s (p .write) → pending ≡ pendingFor (inBox write)
+      → write ≡ WorkBox → t ≡ noWrite (boxesAt s p) → pending ≡ pendingFor (inBox t write) → y ≡ machineByte (settingOf (byteAt (boxAt 2 s (p .machine)) 0) .machine)
       → drive ≡ record { cylinder = byteAt (boxAt 2 s (p .cylinder)) 0; seek = seekAt (byteAt (boxAt 2 s (p .seek)) 0); disk = false }
       → record {
         command = lc;
@@ -271,9 +327,10 @@ module _ (s : List ℕ) (p : Places) where
         index = k;
         write = pending;
         drive = drive;
+        setting = y;
       } ≡ regsFor (worldFrom (boxesAt s p))
   unfolding regsFor worldFrom
-  regs-are command reply unread write lc lr n m k f pending drive ec er eu zc zr zn zm zf zk ew zp zd =
+  regs-are command reply unread write lc lr n m k y f t pending drive ec er eu zc zr zn zm zf zk ew et zp zy zd =
       λ i. record {
         command = (zc ∙ ap (onZeros 9) ec) i;
         count = length (ec i);
@@ -285,14 +342,12 @@ module _ (s : List ℕ) (p : Places) where
         lost = zn i;
         motor = (zf ∙ ap flagAt zm) i;
         index = zk i;
-        write = (zp ∙ ap (λ (x : List ℕ). pendingFor (inBox x)) ew) i;
+        write = (zp ∙ ap₂ (λ (v : Bool) (x : List ℕ). pendingFor (inBox v x)) et ew) i;
         drive = zd i;
+        setting = zy i;
       }
 
 -- ---- the judgement
-
-pub end-is : (s : List ℕ) (p : Places) → p ≡ placesOf s → p .end ≡ placesOf s .end
-end-is s p e = ap (λ (q : Places). q .end) e
 
 pub range-true : (s : List ℕ) (p : Places) (v : Bool) → v ≡ inRange (boxesAt s p) → not v ≡ false → inRange (boxesAt s p) ≡ true
 range-true s p v e f = sym e ∙ not-false v f
@@ -390,8 +445,8 @@ module _ (s x : List ℕ) (p : Places) (e : p ≡ placesOf s) where
     t : Taken s x p
     t = taken-good (sym ed ∙ eg)
 
-    pub taken-write : (y : List ℕ) → y ≡ boxAt 2 s (p .write) → length y ≤ 5 + mostHeld
-    taken-write y q = write-long s p (t .right) y q
+    pub taken-work : (y : List ℕ) → y ≡ WorkBox s p → length y ≤ 5 + mostHeld
+    taken-work y q = work-long s p (t .right) y q
 
     pub taken-unread : (y : List ℕ) → y ≡ boxAt 4 s (p .unread) → 0 + length y ≤ length x
     taken-unread y q = omega (arith, t .room, ap length q, transfer-in x .0)
@@ -406,11 +461,11 @@ module _ (s x : List ℕ) (p : Places) (e : p ≡ placesOf s) where
     taken-few = omega (arith, t .room, transfer-in x .1)
 
     -- all that is left where the sheet is good
-    pub read-good : (r a : Regs) (h g y z l : List ℕ) → y ≡ boxAt 2 s (p .write) → g ≡ heldFor (inBox y) → z ≡ boxAt 4 s (p .unread) → l ≡ over x 0 z
+    pub read-good : (r a : Regs) (h g y z l : List ℕ) → y ≡ WorkBox s p → ((v : Bool) → g ≡ heldFor (inBox v y)) → z ≡ boxAt 4 s (p .unread) → l ≡ over x 0 z
         → a ≡ regsFor (worldFrom (boxesAt s p)) → resuming (record { done = d; regs = a }) g l ≡ sheetRead r h s x
     unfolding sheetRead worldFrom
     read-good r a h g y z l ey eg′ ez el ea =
-        (λ i. resuming (record { done = eg i; regs = ea i }) ((eg′ ∙ ap (λ (v : List ℕ). heldFor (inBox v)) ey) i) ((el ∙ ap (over x 0) ez) i))
+        (λ i. resuming (record { done = eg i; regs = ea i }) ((eg′ (noWrite (boxesAt s p)) ∙ ap (λ (v : List ℕ). heldFor (inBox (noWrite (boxesAt s p)) v)) ey) i) ((el ∙ ap (over x 0) ez) i))
         ∙ ap (λ (v : Result World). resumedAs v r h x) (sym (t .is))
 
 -- and where it is refused

@@ -2,7 +2,6 @@
 use mathlib.Core.Path.{_≡_, refl, sym, ap, _∙_}
 use Prim.Native.Nat.{ℕ, _+_, _-_, _%_, _≤_, _<_}
 use native.Mathlib.Omega.{arith}
-use native.Mathlib.Nat.{mod-lt}
 use mathlib.Core.Bool.{Bool, true, false, not}
 use mathlib.Core.List.{List, [], _∷_, _++_, append-assoc, append-nil}
 use lib.ListN.{length, take, length-append}
@@ -99,11 +98,16 @@ then-box d d₁ d₂ a x at at′ h e p q = laid-behind d d₁ d₂ a (boxFor 2 
 rest-is : (x y z : List ℕ) (lost m : ℕ)
     → (((boxFor 4 x [] ++ boxFor 2 (lost ∷ []) []) ++ boxFor 2 y []) ++ boxFor 2 (m ∷ []) []) ++ boxFor 2 z [] ≡ restFor x lost y m z
 rest-is x y z lost m =
+    let a : List ℕ = boxFor 4 x [] in
     let b : List ℕ = boxFor 2 (lost ∷ []) [] in
     let c : List ℕ = boxFor 2 y [] in
     let e : List ℕ = boxFor 2 (m ∷ []) [] in
     let f : List ℕ = boxFor 2 z [] in
-    simp (append-assoc, append-nil)
+    append-assoc ((a ++ b) ++ c) e f
+    ∙ append-assoc (a ++ b) c (e ++ f)
+    ∙ append-assoc a b (c ++ (e ++ f))
+    ∙ ap (λ (l : List ℕ). a ++ (b ++ highFor 2 (length y) l)) (append-assoc y [] (e ++ f))
+    ∙ ap (highFor 4 (length x)) (append-assoc x [] (b ++ boxFor 2 y (e ++ f)))
 
 pub laid-rest : (d d₁ d₂ d₃ d₄ d₅ x y z u v w : List ℕ) (lost m at at₁ at₂ at₃ at₄ : ℕ) → at ≤ length d → x ≡ u → y ≡ v → z ≡ w
     → d₁ ≡ over d at (boxFor 4 x []) → at₁ ≡ at + 4 + length x → d₂ ≡ over d₁ at₁ (boxFor 2 (lost ∷ []) []) → at₂ ≡ at₁ + 2 + 1
@@ -131,7 +135,7 @@ machine-number n = go (eqb (n % 2) 0) refl
   where
     go : (f : Bool) → eqb (n % 2) 0 ≡ f → n % 2 ≡ machineByte (machineIf f)
     go true e = eqb-true (n % 2) 0 e
-    go false e = let z : n % 2 ≡ 0 → ⊥ = eqb-false (n % 2) 0 e in omega (arith, z, mod-lt n {2} (omega arith))
+    go false e = let z : n % 2 ≡ 0 → ⊥ = eqb-false (n % 2) 0 e in omega (arith, z)
 
 -- both
 pub laid-sheet : (d d₁ d₂ h x : List ℕ) (r : Regs) (n at : ℕ) → Known r h x → n ≡ length (sheetOf (boxesSeen r h x))

@@ -13,11 +13,13 @@ use registers::Pending;
 use registers::Regs;
 use registers::Switched;
 use registers::Target;
+use registers::goal_of;
+use registers::wrong_work;
 use store::Done;
 use store::transfer_room;
 ghost use mathlib.Core.Path.{_≡_};
 ghost use mathlib.Core.Bool.{Bool, true, false};
-ghost use Prim.Native.Nat.{_+_, _-_, _≤_, _<_, _^_};
+ghost use Prim.Native.Nat.{_+_, _≤_, _<_, _^_};
 ghost use lib.ListN.{length};
 ghost use lib.Dec.{leb};
 ghost use Rattle.fields.specs.Bytes.{byteAt};
@@ -197,37 +199,24 @@ fn in_range(s: &[u8], p: Places) -> bool
     let lost = box_two(s, p.lost).len() == 1;
     let write = box_two(s, p.write);
     let format = box_two(s, p.format);
-    let alone = write.len() == 0 | (format.len() == 0);
+    let alone = (write.len() == 0) | (format.len() == 0);
     motor & (cylinder & (seek & (index & (lost & (is_work(write) & (is_work(format) & alone))))))
 }
 
-// The write or the Format that is in a box: whether it is a Format's is told.
-fn pending_in(track: bool, x: &[u8]) -> Pending
-    requires { ⌜ (5 ≤ length (now x)) × (length (now x) < 65536) ⌝ }
-    ensures { λ r. ⌜ r ≡ record {
-      on = true;
-      c1 = byteAt (now (x .entry)) 0;
-      track = track;
-      target = targetAt (now (x .entry));
-      taken = length (now (x .entry)) - 5;
-    } ⌝ }
+// The four numbers in the box of a write, or of a Format.
+fn target_in(x: &[u8]) -> Target
+    requires { ⌜ 5 ≤ length (now x) ⌝ }
+    ensures { λ r. ⌜ r ≡ targetAt (now (x .entry)) ⌝ }
 {
-    let target = Target {
+    Target {
         one: x[1],
         two: x[2],
         three: x[3],
         four: x[4],
-    };
-    Pending {
-        on: true,
-        c1: x[0],
-        track,
-        target,
-        taken: (x.len() - 5) as u16,
     }
 }
 
-// The write in progress, or none.
+// The write in progress, or none; whether it is a Format's is told.
 fn pending_from(track: bool, x: &[u8]) -> Pending
     requires { ⌜ (isWork (now x) ≡ true) × (length (now x) < 65536) ⌝ }
     ensures { λ r. ⌜ r ≡ pendingFor (inBox track (now (x .entry))) ⌝ }
@@ -235,7 +224,14 @@ fn pending_from(track: bool, x: &[u8]) -> Pending
     if x.len() == 0 {
         return Pending::none();
     }
-    pending_in(track, x)
+    let target = target_in(x);
+    Pending {
+        on: true,
+        c1: x[0],
+        track,
+        target,
+        taken: (x.len() - 5) as u16,
+    }
 }
 
 // Where the box of a write is empty, that of a Format counts.
@@ -254,15 +250,15 @@ fn work_box<'a>(s: &'a [u8], p: Places) -> &'a [u8]
     box_two(s, p.write)
 }
 
-// A write that no controller has with this setting.
-fn wrong_work(setting: u8, track: bool, x: &[u8]) -> bool
-    requires { ⌜ (isWork (now x) ≡ true) × (length (now x) < 65536) ⌝ }
+// A write or a Format that no controller has with this setting.
+fn wrong_box(setting: u8, track: bool, x: &[u8]) -> bool
+    requires { ⌜ isWork (now x) ≡ true ⌝ }
     ensures { λ r. ⌜ r ≡ wrongWriting (settingOf setting) (inBox track (now (x .entry))) ⌝ }
 {
     if x.len() == 0 {
         return false;
     }
-    pending_in(track, x).wrong(setting)
+    wrong_work(setting, x[0], goal_of(track, target_in(x)), x.len() - 5)
 }
 
 // A command that is as long as it has bytes, or longer. Where nothing was sent, no table is asked.
@@ -284,7 +280,7 @@ fn wrong_boxes(s: &[u8], p: Places) -> bool
     let command = wrong_command(box_two(s, p.command));
     let lost = 2 < first(box_two(s, p.lost));
     let setting = first(box_two(s, p.machine));
-    let write = wrong_work(setting, no_write(s, p), work_box(s, p));
+    let write = wrong_box(setting, no_write(s, p), work_box(s, p));
     reply | (command | (lost | write))
 }
 
