@@ -1,13 +1,14 @@
 -- The controller that boxes give, and the boxes that a controller shows.
 use mathlib.Core.Path.{_≡_, refl, sym, ap, _∙_}
-use Prim.Native.Nat.{ℕ, zero, suc, _≤_, _<_}
+use Prim.Native.Nat.{ℕ, zero, suc, _%_, _≤_, _<_}
 use native.Mathlib.Omega.{arith}
 use mathlib.Core.Bool.{Bool, true, false}
 use mathlib.Core.List.{List, [], _∷_}
 use mathlib.Core.Option.{Option, none, some}
 use lib.ListN.{length, take, replicate, length-take, length-replicate}
 use lib.Seq.{slice, take-at, length-slice}
-use borrow.Author.Tests.{le-ltb, lt-leb}
+use lib.Dec.{eqb}
+use borrow.Author.Tests.{eqb-true, eqb-false, le-ltb, lt-leb}
 use Rattle.buffer.specs.Over.{over}
 use Rattle.buffer.proofs.Overs.{over-front, over-length, over-slice}
 use Rattle.fields.specs.Bytes.{byteAt}
@@ -18,7 +19,7 @@ use Rattle.store.specs.Store.{transferRoom}
 use Rattle.registers.specs.declared.regs.Regs.{Regs}
 use Rattle.registers.specs.declared.regs.Pending.{Pending}
 use Rattle.registers.specs.declared.regs.Goal.{Goal}
-use Rattle.registers.specs.Boxes.{Machine, Rust, DataSheet, Setting, settingOf, Empty, wholeOf, Writing, World}
+use Rattle.registers.specs.Boxes.{Machine, Rust, DataSheet, Setting, machineIf, settingOf, Empty, wholeOf, Writing, World}
 use Rattle.registers.specs.Ports.{changeDisk}
 use Rattle.registers.specs.View.{goalOf, writingIf, insideOf, frontOf, worldOf, wrongWork, wrongWrite, impossible, impossibleIn}
 use Rattle.registers.proofs.Numbers.{possible, count-few, goal-kept, whole-most, work-below, work-more, write-right, taken-few}
@@ -45,6 +46,14 @@ first-same [] = refl
 first-same (b ∷ x) = refl
 
 -- ---- the numbers of the controller
+
+-- the number of the machine that a setting has
+pub machine-number : (n : ℕ) → n % 2 ≡ machineByte (settingOf n .machine)
+machine-number n = go (eqb (n % 2) 0) refl
+  where
+    go : (f : Bool) → eqb (n % 2) 0 ≡ f → n % 2 ≡ machineByte (machineIf f)
+    go true e = eqb-true (n % 2) 0 e
+    go false e = let z : n % 2 ≡ 0 → ⊥ = eqb-false (n % 2) 0 e in omega (arith, z)
 
 -- the machine, by its number
 pub setting-same : (x : Setting) → settingOf (machineByte (x .machine)) ≡ x

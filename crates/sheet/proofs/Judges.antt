@@ -1,6 +1,6 @@
 -- What the proofs of the reader cite: the tests that it makes, and where they lead.
 use mathlib.Core.Path.{_≡_, refl, sym, ap, ap₂, _∙_, subst}
-use Prim.Native.Nat.{ℕ, zero, suc, _+_, _*_, _-_, _^_, _≤_, _<_}
+use Prim.Native.Nat.{ℕ, zero, suc, _+_, _*_, _-_, _%_, _^_, _≤_, _<_}
 use native.Mathlib.Nat.{add-zero}
 use native.Mathlib.Omega.{arith}
 use mathlib.Core.Bool.{Bool, true, false, not, _&&_, _||_}
@@ -35,10 +35,10 @@ use Rattle.registers.specs.View.{goalIf, wrongWork}
 use Rattle.registers.specs.Settle.{noPending, trackIn, targetIn}
 use Rattle.layout.specs.Layout.{flagAt, seekAt}
 use Rattle.sheet.specs.declared.reading.Places.{Places}
-use Rattle.sheet.specs.Sheets.{highAt, boxAt, behind, behindNew, isOld, placesOf, boxesAt, framed, Sheet, machineByte, oneTo, isWork, inRange, targetAt, workIf, inBox}
+use Rattle.sheet.specs.Sheets.{highAt, boxAt, behind, behindNew, isOld, placesOf, boxesAt, framed, Sheet, oneTo, isWork, inRange, targetAt, workIf, inBox}
 use Rattle.sheet.specs.Sheets.{eitherBox, noWrite, worldFrom, wrongWriting, wrongBoxes, sheetAt, worldIn}
 use Rattle.sheet.specs.Calls.{onZeros, pendingFor, heldFor, regsFor, takenFrom, whetherTaken, resuming, resumedAs, sheetRead}
-use Rattle.sheet.proofs.Gives.{held-few, command-few, reply-few, write-fits}
+use Rattle.sheet.proofs.Gives.{machine-number, held-few, command-few, reply-few, write-fits}
 
 -- ---- the form
 
@@ -312,7 +312,7 @@ module _ (s : List ℕ) (p : Places) where
   pub regs-are : (command reply unread write lc lr : List ℕ) (n m k y : ℕ) (f t : Bool) (pending : Pending) (drive : Drive)
       → command ≡ boxAt 2 s (p .command) → reply ≡ boxAt 2 s (p .reply) → unread ≡ boxAt 4 s (p .unread) → lc ≡ onZeros 9 command → lr ≡ onZeros 7 reply
       → n ≡ byteAt (boxAt 2 s (p .lost)) 0 → m ≡ byteAt (boxAt 2 s (p .motor)) 0 → f ≡ flagAt m → k ≡ highAt 2 (boxAt 2 s (p .index)) 0
-      → write ≡ WorkBox → t ≡ noWrite (boxesAt s p) → pending ≡ pendingFor (inBox t write) → y ≡ machineByte (settingOf (byteAt (boxAt 2 s (p .machine)) 0) .machine)
+      → write ≡ WorkBox → t ≡ noWrite (boxesAt s p) → pending ≡ pendingFor (inBox t write) → y ≡ byteAt (boxAt 2 s (p .machine)) 0
       → drive ≡ record { cylinder = byteAt (boxAt 2 s (p .cylinder)) 0; seek = seekAt (byteAt (boxAt 2 s (p .seek)) 0); disk = false }
       → record {
         command = lc;
@@ -327,7 +327,7 @@ module _ (s : List ℕ) (p : Places) where
         index = k;
         write = pending;
         drive = drive;
-        setting = y;
+        setting = y % 2;
       } ≡ regsFor (worldFrom (boxesAt s p))
   unfolding regsFor worldFrom
   regs-are command reply unread write lc lr n m k y f t pending drive ec er eu zc zr zn zm zf zk ew et zp zy zd =
@@ -344,7 +344,7 @@ module _ (s : List ℕ) (p : Places) where
         index = zk i;
         write = (zp ∙ ap₂ (λ (v : Bool) (x : List ℕ). pendingFor (inBox v x)) et ew) i;
         drive = zd i;
-        setting = zy i;
+        setting = (ap (λ (v : ℕ). v % 2) zy ∙ machine-number (byteAt (boxAt 2 s (p .machine)) 0)) i;
       }
 
 -- ---- the judgement

@@ -6,22 +6,21 @@ use mathlib.Core.Bool.{Bool, true, false, not}
 use mathlib.Core.List.{List, [], _∷_, _++_, append-assoc, append-nil}
 use lib.ListN.{length, take, length-append}
 use lib.Seq.{length-take-le, slice}
-use lib.Dec.{eqb}
-use borrow.Author.Tests.{eqb-true, eqb-false, not-true, not-false}
+use borrow.Author.Tests.{not-true, not-false}
 use Rattle.buffer.specs.Over.{over}
 use Rattle.buffer.proofs.Overs.{over-over}
 use Rattle.fields.specs.declared.refusal.Refusal.the-variants.{BadController, ShortBuffer}
 use Rattle.registers.specs.declared.regs.Regs.{Regs}
 use Rattle.registers.specs.declared.regs.Pending.{Pending}
-use Rattle.registers.specs.Boxes.{machineIf, settingOf}
 use Rattle.registers.specs.View.{writingIf, insideOf, frontOf}
 use Rattle.sending.specs.Calls.{impossibleWith}
 use Rattle.layout.specs.Layout.{flagByte, seekByte}
-use Rattle.sheet.specs.Sheets.{highFor, boxFor, writeBox, machineByte, formatBox, sheetVersion, boxesOf, boxesFor, paperOf, sheetOf}
+use Rattle.sheet.specs.Sheets.{highFor, boxFor, writeBox, formatBox, sheetVersion, boxesOf, boxesFor, paperOf, sheetOf}
 use Rattle.store.specs.Calls.{penned}
 use Rattle.store.proofs.Pens.{penned-short, penned-whole}
 use Rattle.store.specs.declared.answer.Extent.the-variants.{Of, Refused}
 use Rattle.sheet.specs.Calls.{boxesSeen, workFor, sheetWritten}
+use Rattle.sheet.proofs.Gives.{machine-number}
 use Rattle.sheet.proofs.Lengths.{work-long, Known}
 
 -- two parts, the second just behind the first
@@ -87,55 +86,40 @@ laid-first d d₁ d₂ d₃ o x y z r rest at g e p q f s =
     ∙ ap (λ (l : List ℕ). over d 0 (openingFor r rest (highFor 2 (length x) l))) (append-assoc x [] (boxFor 2 y []))
     ∙ ap (λ (l : List ℕ). over d 0 (openingFor r rest (boxFor 2 x (boxFor 2 l [])))) g
 
--- the unread data, the lost count, the write, the machine and the Format
+-- the write, the machine and the Format
+abbrev worksFor : List ℕ → ℕ → List ℕ → List ℕ
+worksFor x m y = boxFor 2 x (boxFor 2 (m ∷ []) (boxFor 2 y []))
+
+pub laid-works : (d d₁ d₂ d₃ x y u v : List ℕ) (m at at₁ at₂ : ℕ) → at ≤ length d → u ≡ x → v ≡ y → d₁ ≡ over d at (boxFor 2 x []) → at₁ ≡ at + 2 + length x
+    → d₂ ≡ over d₁ at₁ (boxFor 2 (m ∷ []) []) → at₂ ≡ at₁ + 2 + 1 → d₃ ≡ over d₂ at₂ (boxFor 2 y []) → d₃ ≡ over d at (worksFor u m v)
+laid-works d d₁ d₂ d₃ x y u v m at at₁ at₂ h eu ev p e q f s =
+    let a : List ℕ = boxFor 2 x [] in
+    let b : List ℕ = boxFor 2 (m ∷ []) [] in
+    let c : List ℕ = boxFor 2 y [] in
+    let n : length a ≡ 2 + length x = simp append-nil (omega arith) in
+    let k : at₂ ≡ at + length (a ++ b) = simp length-append (omega arith) in
+    let w : d₂ ≡ over d at (a ++ b) = laid-behind d d₁ d₂ a b at at₁ h (omega arith) p q in
+    laid-behind d d₂ d₃ (a ++ b) c at at₂ h k w s
+    ∙ ap (λ (l : List ℕ). over d at (highFor 2 (length x) l)) (append-assoc (x ++ []) b c ∙ append-assoc x [] (b ++ c))
+    ∙ (λ i. over d at (worksFor (sym eu i) m (sym ev i)))
+
+-- the unread data and the lost count, and what is laid behind them
+pub laid-rest : (d d₁ d₂ d₃ x c z : List ℕ) (lost at at₁ at₂ : ℕ) → at ≤ length d → x ≡ z → d₁ ≡ over d at (boxFor 4 x []) → at₁ ≡ at + 4 + length x
+    → d₂ ≡ over d₁ at₁ (boxFor 2 (lost ∷ []) []) → at₂ ≡ at₁ + 2 + 1 → d₃ ≡ over d₂ at₂ c
+    → d₃ ≡ over d at (boxFor 4 z (boxFor 2 (lost ∷ []) c))
+laid-rest d d₁ d₂ d₃ x c z lost at at₁ at₂ h g p e q f s =
+    let a : List ℕ = boxFor 4 x [] in
+    let b : List ℕ = boxFor 2 (lost ∷ []) [] in
+    let n : length a ≡ 4 + length x = simp append-nil (omega arith) in
+    let m : at₂ ≡ at + length (a ++ b) = simp length-append (omega arith) in
+    let u : d₂ ≡ over d at (a ++ b) = laid-behind d d₁ d₂ a b at at₁ h (omega arith) p q in
+    laid-behind d d₂ d₃ (a ++ b) c at at₂ h m u s
+    ∙ ap (λ (l : List ℕ). over d at (highFor 4 (length x) l)) (append-assoc (x ++ []) b c ∙ append-assoc x [] (b ++ c))
+    ∙ ap (λ (l : List ℕ). over d at (boxFor 4 l (b ++ c))) g
+
+-- what stands behind the reply
 abbrev restFor : List ℕ → ℕ → List ℕ → ℕ → List ℕ → List ℕ
-restFor x lost y m z = boxFor 4 x (boxFor 2 (lost ∷ []) (boxFor 2 y (boxFor 2 (m ∷ []) (boxFor 2 z []))))
-
--- two boxes, one behind the other
-then-box : (d d₁ d₂ a x : List ℕ) (at at′ : ℕ) → at ≤ length d → at′ ≡ at + length a → d₁ ≡ over d at a → d₂ ≡ over d₁ at′ (boxFor 2 x []) → d₂ ≡ over d at (a ++ boxFor 2 x [])
-then-box d d₁ d₂ a x at at′ h e p q = laid-behind d d₁ d₂ a (boxFor 2 x []) at at′ h e p q
-
-rest-is : (x y z : List ℕ) (lost m : ℕ)
-    → (((boxFor 4 x [] ++ boxFor 2 (lost ∷ []) []) ++ boxFor 2 y []) ++ boxFor 2 (m ∷ []) []) ++ boxFor 2 z [] ≡ restFor x lost y m z
-rest-is x y z lost m =
-    let a : List ℕ = boxFor 4 x [] in
-    let b : List ℕ = boxFor 2 (lost ∷ []) [] in
-    let c : List ℕ = boxFor 2 y [] in
-    let e : List ℕ = boxFor 2 (m ∷ []) [] in
-    let f : List ℕ = boxFor 2 z [] in
-    append-assoc ((a ++ b) ++ c) e f
-    ∙ append-assoc (a ++ b) c (e ++ f)
-    ∙ append-assoc a b (c ++ (e ++ f))
-    ∙ ap (λ (l : List ℕ). a ++ (b ++ highFor 2 (length y) l)) (append-assoc y [] (e ++ f))
-    ∙ ap (highFor 4 (length x)) (append-assoc x [] (b ++ boxFor 2 y (e ++ f)))
-
-pub laid-rest : (d d₁ d₂ d₃ d₄ d₅ x y z u v w : List ℕ) (lost m at at₁ at₂ at₃ at₄ : ℕ) → at ≤ length d → x ≡ u → y ≡ v → z ≡ w
-    → d₁ ≡ over d at (boxFor 4 x []) → at₁ ≡ at + 4 + length x → d₂ ≡ over d₁ at₁ (boxFor 2 (lost ∷ []) []) → at₂ ≡ at₁ + 2 + 1
-    → d₃ ≡ over d₂ at₂ (boxFor 2 y []) → at₃ ≡ at₂ + 2 + length y → d₄ ≡ over d₃ at₃ (boxFor 2 (m ∷ []) []) → at₄ ≡ at₃ + 2 + 1
-    → d₅ ≡ over d₄ at₄ (boxFor 2 z []) → d₅ ≡ over d at (restFor u lost v m w)
-laid-rest d d₁ d₂ d₃ d₄ d₅ x y z u v w lost m at at₁ at₂ at₃ at₄ h eu ev ew p e q f s g t k r =
-    let a : List ℕ = boxFor 4 x [] in
-    let b : List ℕ = boxFor 2 (lost ∷ []) [] in
-    let c : List ℕ = boxFor 2 y [] in
-    let i : List ℕ = boxFor 2 (m ∷ []) [] in
-    let na : length a ≡ 4 + length x = simp append-nil (omega arith) in
-    let nc : length c ≡ 2 + length y = simp append-nil (omega arith) in
-    let n1 : at₁ ≡ at + length a = omega arith in
-    let n2 : at₂ ≡ at + length (a ++ b) = simp length-append (omega arith) in
-    let n3 : at₃ ≡ at + length ((a ++ b) ++ c) = simp length-append (omega arith) in
-    let n4 : at₄ ≡ at + length (((a ++ b) ++ c) ++ i) = simp length-append (omega arith) in
-    let u2 = then-box d d₁ d₂ a (lost ∷ []) at at₁ h n1 p q in
-    let u3 = then-box d d₂ d₃ (a ++ b) y at at₂ h n2 u2 s in
-    let u4 = then-box d d₃ d₄ ((a ++ b) ++ c) (m ∷ []) at at₃ h n3 u3 t in
-    then-box d d₄ d₅ (((a ++ b) ++ c) ++ i) z at at₄ h n4 u4 r ∙ ap (over d at) (rest-is x y z lost m) ∙ (λ j. over d at (restFor (eu j) lost (ev j) m (ew j)))
-
--- the number of the machine that a setting has
-machine-number : (n : ℕ) → n % 2 ≡ machineByte (settingOf n .machine)
-machine-number n = go (eqb (n % 2) 0) refl
-  where
-    go : (f : Bool) → eqb (n % 2) 0 ≡ f → n % 2 ≡ machineByte (machineIf f)
-    go true e = eqb-true (n % 2) 0 e
-    go false e = let z : n % 2 ≡ 0 → ⊥ = eqb-false (n % 2) 0 e in omega (arith, z)
+restFor x lost y m z = boxFor 4 x (boxFor 2 (lost ∷ []) (worksFor y m z))
 
 -- both
 pub laid-sheet : (d d₁ d₂ h x : List ℕ) (r : Regs) (n at : ℕ) → Known r h x → n ≡ length (sheetOf (boxesSeen r h x))

@@ -73,6 +73,17 @@ work-size true false p h g e = let n : length (take (p .taken) h) ≡ p .taken =
 pub work-long : (p : Pending) (h : List ℕ) → p .taken ≤ length h → length (workFor true p h) ≡ 5 + p .taken
 work-long p h e = let t : length (take (p .taken) h) ≡ p .taken = length-take-le (p .taken) h e in omega arith
 
+-- the two boxes, of which one has it at most
+pub works-room : (f t : Bool) (p : Pending) (h : List ℕ) → (f ≡ true → p .taken ≤ length h)
+    → length (workFor (f && not t) p h) + length (workFor (f && t) p h) ≡ cond f (5 + p .taken) 0
+works-room false t p h e = refl
+works-room true true p h e = omega (arith, work-long p h (e refl))
+works-room true false p h e = omega (arith, work-long p h (e refl))
+
+pub held-here : (f t : Bool) → (f && t) ≡ true → f ≡ true
+held-here true t e = refl
+held-here false t e = never (cc)
+
 -- which of the boxes a write in progress has
 pub write-here : (f t : Bool) (p : Pending) (h : List ℕ) → p .track ≡ t → writeBox (writingIf f p h) ≡ workFor (f && not t) p h
 write-here false t p h g = refl

@@ -271,8 +271,8 @@ work-back (some w) = go (w .goal)
   where
     go : (g : Goal) → let x : List ℕ = writeAs g (w .c1) (w .held) in let y : List ℕ = formatAs g (w .c1) (w .held) in
         let none? : Bool = eqb (length x) 0 in inBox none? (eitherBox none? x y) ≡ some record { c1 = w .c1; goal = g; held = w .held }
-    go (IntoSector id) = rw (some-box (w .c1) (id .c) (id .h) (id .r) (id .n) (w .held))
-    go (IntoTrack z) = rw (some-box (w .c1) (z .size) (z .sectors) (z .gap) (z .filler) (w .held))
+    go (IntoSector id) = let e = some-box (w .c1) (id .c) (id .h) (id .r) (id .n) (w .held) in rw (e, e) refl
+    go (IntoTrack z) = let e = some-box (w .c1) (z .size) (z .sectors) (z .gap) (z .filler) (w .held) in rw e refl
 
 world-back : (w : World) → w .inside .index < 65536 → worldFrom (boxesOf w) ≡ changeDisk Empty w
 unfolding worldFrom boxesOf changeDisk
@@ -320,7 +320,7 @@ works-of none = record { write = refl; format = refl; alone = refl }
 works-of (some w) = go (w .goal)
   where
     go : (g : Goal) → Works (writeAs g (w .c1) (w .held)) (formatAs g (w .c1) (w .held))
-    go (IntoSector id) = record { write = five-whole (w .c1) (id .c) (id .h) (id .r) (id .n) (w .held); format = refl; alone = or-true _ }
+    go (IntoSector id) = record { write = five-whole (w .c1) (id .c) (id .h) (id .r) (id .n) (w .held); format = refl; alone = or-true (eqb (length (w .c1 ∷ id .c ∷ id .h ∷ id .r ∷ id .n ∷ w .held)) 0) }
     go (IntoTrack z) = record { write = refl; format = five-whole (w .c1) (z .size) (z .sectors) (z .gap) (z .filler) (w .held); alone = refl }
 
 range-back : (w : World) → inRange (boxesOf w) ≡ true
@@ -531,7 +531,7 @@ end-box : (s : List ℕ) (at : ℕ) → at ≡ length s → boxAt 2 s at ≡ []
 unfolding boxAt
 end-box s at e = ap (take (highAt 2 s at)) (drop-of-length-le s {i = at + 2} (omega (arith, e))) ∙ take-none (highAt 2 s at)
   where
-    take-none : (n : ℕ) → take n [] ≡ []
+    take-none : (n : ℕ) → _≡_ {A = List ℕ} (take n []) []
     take-none zero = refl
     take-none (suc n) = refl
 

@@ -364,7 +364,7 @@ fn regs_from(s: &[u8], p: Places) -> Regs
         index: index_in(s, p.index),
         write: pending_from(no_write(s, p), work_box(s, p)),
         drive: drive_in(s, p),
-        setting: number_in(s, p.machine),
+        setting: number_in(s, p.machine) % 2,
     }
 }
 

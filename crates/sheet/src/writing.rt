@@ -114,6 +114,20 @@ fn put_work(sheet: &mut [u8], at: usize, here: bool, p: Pending, held: &[u8]) ->
     at + 2 + n
 }
 
+// Lays the write, the machine and the Format.
+fn lay_works(r: Regs, held: &[u8], at: usize, sheet: &mut [u8])
+    requires { ⌜ (r .write .on ≡ true → r .write .taken ≤ length (now held)) ⌝ }
+    requires { ⌜ at + 7 + cond (r .write .on) (5 + r .write .taken) 0 ≤ length (now sheet) ⌝ }
+    ensures { λ _. ⌜ now (sheet .exit) ≡ over (now (sheet .entry)) at
+        (boxFor 2 (writeBox (writingIf (r .write .on) (r .write) (now (held .entry))))
+        (boxFor 2 (r .setting % 2 ∷ []) (boxFor 2 (formatBox (writingIf (r .write .on) (r .write) (now (held .entry)))) []))) ⌝ }
+{
+    let p = r.write;
+    let machine = put_work(sheet, at, p.on & !p.track, p, held);
+    let format = put(sheet, machine, &[r.setting % 2]);
+    put_work(sheet, format, p.on & p.track, p, held);
+}
+
 // How many bytes the box of a write has, and the whole sheet.
 fn write_size(p: Pending) -> usize
     ensures { λ n. ⌜ n ≡ cond (p .on) (5 + p .taken) 0 ⌝ }
@@ -160,7 +174,7 @@ fn lay_first(r: Regs, rest: usize, sheet: &mut [u8]) -> usize
 fn lay_rest(r: Regs, held: &[u8], transfer: &[u8], at: usize, sheet: &mut [u8])
     requires { ⌜ (r .from ≤ r .until) × (r .until ≤ length (now transfer)) ⌝ }
     requires { ⌜ (r .write .on ≡ true → r .write .taken ≤ length (now held)) ⌝ }
-    requires { ⌜ at + 9 + (r .until - r .from) + 5 + cond (r .write .on) (5 + r .write .taken) 0 ≤ length (now sheet) ⌝ }
+    requires { ⌜ at + 14 + (r .until - r .from) + cond (r .write .on) (5 + r .write .taken) 0 ≤ length (now sheet) ⌝ }
     ensures { λ _. ⌜ now (sheet .exit) ≡ over (now (sheet .entry)) at (boxFor 4 (slice (r .from) (r .until) (now (transfer .entry)))
         (boxFor 2 (r .lost ∷ []) (boxFor 2 (writeBox (writingIf (r .write .on) (r .write) (now (held .entry))))
         (boxFor 2 (r .setting % 2 ∷ []) (boxFor 2 (formatBox (writingIf (r .write .on) (r .write) (now (held .entry)))) []))))) ⌝ }
@@ -169,10 +183,7 @@ fn lay_rest(r: Regs, held: &[u8], transfer: &[u8], at: usize, sheet: &mut [u8])
     let until = r.until as usize;
     let next = put_long(sheet, at, &transfer[from..until]);
     let last = put(sheet, next, &[r.lost]);
-    let p = r.write;
-    let machine = put_work(sheet, last, p.on & !p.track, p, held);
-    let format = put(sheet, machine, &[r.setting % 2]);
-    put_work(sheet, format, p.on & p.track, p, held);
+    lay_works(r, held, last, sheet);
 }
 
 // Lays the whole sheet, so many bytes, at the buffer's start.

@@ -27,8 +27,14 @@ box-two-requires-5 c κs = search needs
 box-two-requires-6 : tie.Need-box-two-requires-6
 box-two-requires-6 c κs = search needs
 
-is-write-requires : tie.Need-is-write-requires
-is-write-requires c κs = search needs
+box-two-requires-7 : tie.Need-box-two-requires-7
+box-two-requires-7 c κs = search needs
+
+is-work-requires : tie.Need-is-work-requires
+is-work-requires c κs = search needs
+
+is-work-requires-2 : tie.Need-is-work-requires-2
+is-work-requires-2 c κs = search needs
 
 returns : tie.Need-returns
 returns c = search (needs, range-is)
@@ -45,5 +51,7 @@ in-range-spec =
     box-two-requires-4
     box-two-requires-5
     box-two-requires-6
-    is-write-requires
+    box-two-requires-7
+    is-work-requires
+    is-work-requires-2
     returns)

@@ -1,10 +1,10 @@
-use Rattle.sheet.proofs.Judges.{end-is, range-true, judge-form, judge-range, judge-boxes, judge-room, judge-good}
+use Rattle.sheet.proofs.Judges.{range-true, judge-form, judge-range, judge-boxes, judge-room, judge-good}
 use borrow.Author.Needs.{needs}
 use Rattle.sheet.proofs.reading.judge.Statement.{statement}
 use Rattle.sheet.proofs.reading.judge.Tie as tie
 
 is-framed-requires : tie.Need-is-framed-requires
-is-framed-requires c κs = search (needs, end-is)
+is-framed-requires c κs = search needs
 
 returns : tie.Need-returns
 returns c = search (needs, judge-form)

@@ -30,6 +30,15 @@ behind-two-requires-7 c κs = search needs
 behind-two-requires-8 : tie.Need-behind-two-requires-8
 behind-two-requires-8 c κs = search needs
 
+is-old-requires : tie.Need-is-old-requires
+is-old-requires c κs = search needs
+
+behind-new-requires : tie.Need-behind-new-requires
+behind-new-requires c κs = search needs
+
+behind-new-requires-2 : tie.Need-behind-new-requires-2
+behind-new-requires-2 c κs = search needs
+
 returns : tie.Need-returns
 returns c = search (needs, places-are)
 
@@ -46,4 +55,7 @@ locate-spec =
     behind-four-requires
     behind-two-requires-7
     behind-two-requires-8
+    is-old-requires
+    behind-new-requires
+    behind-new-requires-2
     returns)

@@ -3,11 +3,14 @@ use borrow.Author.Needs.{needs}
 use Rattle.sheet.proofs.reading.pending_from.Statement.{statement}
 use Rattle.sheet.proofs.reading.pending_from.Tie as tie
 
+none-requires : tie.Need-none-requires
+none-requires c κs = search needs
+
 returns : tie.Need-returns
 returns c = search (needs, pending-none)
 
-id-in-requires : tie.Need-id-in-requires
-id-in-requires c κs = search (needs, five-there)
+target-in-requires : tie.Need-target-in-requires
+target-in-requires c κs = search (needs, five-there)
 
 shared-slice-read-t7 : tie.Need-shared-slice-read-t7
 shared-slice-read-t7 c = search needs
@@ -23,4 +26,12 @@ returns-2 c = search (needs, pending-some)
 
 pub pending-from-spec : {M : Type 1} → statement M
 pending-from-spec =
-    tie.close (tie.spec returns id-in-requires shared-slice-read-t7 sub-t8 cast-t9 returns-2)
+    tie.close
+    (tie.spec
+    none-requires
+    returns
+    target-in-requires
+    shared-slice-read-t7
+    sub-t8
+    cast-t9
+    returns-2)

@@ -1,4 +1,4 @@
-use Rattle.sheet.proofs.Judges.{taken-write, taken-unread, taken-range, taken-right, taken-few, read-good, read-refused}
+use Rattle.sheet.proofs.Judges.{taken-work, taken-unread, taken-range, taken-right, taken-few, read-good, read-refused}
 use borrow.Author.Needs.{needs}
 use Rattle.sheet.proofs.reading.read_parts.Statement.{statement}
 use Rattle.sheet.proofs.reading.read_parts.Tie as tie
@@ -15,11 +15,11 @@ enum-told c = search needs
 enum-told-2 : tie.Need-enum-told-2
 enum-told-2 c = search needs
 
-box-two-requires : tie.Need-box-two-requires
-box-two-requires c κs = search needs
+work-box-requires : tie.Need-work-box-requires
+work-box-requires c κs = search needs
 
 lay-held-requires : tie.Need-lay-held-requires
-lay-held-requires c κs = search (needs, taken-write)
+lay-held-requires c κs = search (needs, taken-work)
 
 box-four-requires : tie.Need-box-four-requires
 box-four-requires c κs = search needs
@@ -53,7 +53,7 @@ read-parts-spec =
     judge-requires
     enum-told
     enum-told-2
-    box-two-requires
+    work-box-requires
     lay-held-requires
     box-four-requires
     copy-in-requires

@@ -1,4 +1,4 @@
-use Rattle.sheet.proofs.Judges.{command-fits, reply-fits, command-small, reply-small, write-small, unread-small, right-write, regs-are}
+use Rattle.sheet.proofs.Judges.{command-fits, command-small, reply-fits, reply-small, unread-small, right-work, work-small, regs-are}
 use borrow.Author.Needs.{needs}
 use Rattle.sheet.proofs.reading.regs_from.Statement.{statement}
 use Rattle.sheet.proofs.reading.regs_from.Tie as tie
@@ -39,14 +39,20 @@ flag-at-requires c κs = search needs
 index-in-requires : tie.Need-index-in-requires
 index-in-requires c κs = search needs
 
-box-two-requires-3 : tie.Need-box-two-requires-3
-box-two-requires-3 c κs = search needs
+no-write-requires : tie.Need-no-write-requires
+no-write-requires c κs = search needs
+
+work-box-requires : tie.Need-work-box-requires
+work-box-requires c κs = search needs
 
 pending-from-requires : tie.Need-pending-from-requires
-pending-from-requires c κs = search (needs, right-write, write-small)
+pending-from-requires c κs = search (needs, right-work, work-small)
 
 drive-in-requires : tie.Need-drive-in-requires
 drive-in-requires c κs = search needs
+
+number-in-requires-3 : tie.Need-number-in-requires-3
+number-in-requires-3 c κs = search needs
 
 returns : tie.Need-returns
 returns c = search (needs, regs-are)
@@ -67,7 +73,9 @@ regs-from-spec =
     number-in-requires-2
     flag-at-requires
     index-in-requires
-    box-two-requires-3
+    no-write-requires
+    work-box-requires
     pending-from-requires
     drive-in-requires
+    number-in-requires-3
     returns)

@@ -1,4 +1,4 @@
-use Rattle.sheet.proofs.Judges.{right-write, wrong-tests}
+use Rattle.sheet.proofs.Judges.{wrong-tests, right-work}
 use borrow.Author.Needs.{needs}
 use Rattle.sheet.proofs.reading.wrong_boxes.Statement.{statement}
 use Rattle.sheet.proofs.reading.wrong_boxes.Tie as tie
@@ -21,8 +21,17 @@ first-requires c κs = search needs
 box-two-requires-4 : tie.Need-box-two-requires-4
 box-two-requires-4 c κs = search needs
 
-wrong-write-requires : tie.Need-wrong-write-requires
-wrong-write-requires c κs = search (needs, right-write)
+first-requires-2 : tie.Need-first-requires-2
+first-requires-2 c κs = search needs
+
+no-write-requires : tie.Need-no-write-requires
+no-write-requires c κs = search needs
+
+work-box-requires : tie.Need-work-box-requires
+work-box-requires c κs = search needs
+
+wrong-box-requires : tie.Need-wrong-box-requires
+wrong-box-requires c κs = search (needs, right-work)
 
 returns : tie.Need-returns
 returns c = search (needs, wrong-tests)
@@ -37,5 +46,8 @@ wrong-boxes-spec =
     box-two-requires-3
     first-requires
     box-two-requires-4
-    wrong-write-requires
+    first-requires-2
+    no-write-requires
+    work-box-requires
+    wrong-box-requires
     returns)

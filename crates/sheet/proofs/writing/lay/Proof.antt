@@ -1,7 +1,11 @@
 use mathlib.Core.Path.{_≡_}
 use native.Mathlib.Omega.{arith}
+use Prim.Native.Nat.{_+_, _-_}
+use mathlib.Core.Bool.{cond}
 use lib.ListN.{length}
-use Rattle.sheet.proofs.Lengths.{Known, known}
+use Rattle.sheet.specs.Sheets.{sheetOf}
+use Rattle.sheet.specs.Calls.{boxesSeen}
+use Rattle.sheet.proofs.Lengths.{Known, known, sheet-size}
 use Rattle.sheet.proofs.Lays.{laid-sheet}
 use borrow.Author.Needs.{needs}
 use Rattle.sheet.proofs.writing.lay.Statement.{statement}
@@ -13,6 +17,10 @@ long s = search needs
 
 fits : (s : tie.Start) → Known (s .args .r) (s .args .held .now) (s .args .transfer .now)
 fits s = known (s .args .r) (s .args .held .now) (s .args .transfer .now) (long s .0) (long s .1) (s .pre .0)
+
+sized : (s : tie.Start) → let r = s .args .r in length (sheetOf (boxesSeen r (s .args .held .now) (s .args .transfer .now)))
+    ≡ 36 + r .count + (r .fill - r .place) + (r .until - r .from) + cond (r .write .on) (5 + r .write .taken) 0
+sized s = sheet-size (s .args .r) (s .args .held .now) (s .args .transfer .now) (long s .0) (long s .1) (s .pre .0)
 
 sub-lay-first : tie.Need-sub-lay-first
 sub-lay-first c = let start = c .before .before .before in omega (arith, fits start .long, start .pre .1)
@@ -27,7 +35,7 @@ lay-rest-requires : tie.Need-lay-rest-requires
 lay-rest-requires c κs =
     let start = c .before .before .before .before .before .before .before .before in
     let k = fits start in
-    ((k .from-in, k .until-in), (k .held-in, omega (arith, k .long, c .before .before .before .lay-first .ensures .1, start .pre .1)))
+    ((k .from-in, k .until-in), (k .held-in, omega (arith, sized start, c .before .before .before .lay-first .ensures .1, start .pre .1)))
 
 same-length : tie.Need-same-length
 same-length c = search needs

@@ -2,8 +2,6 @@ use Prim.Native.Nat.{_-_}
 use native.Mathlib.Omega.{arith}
 use lib.ListN.{take, drop}
 use Rattle.buffer.proofs.Overs.{slice-drop}
-use Rattle.registers.specs.View.{writingIf}
-use Rattle.sheet.specs.Sheets.{writeBox}
 use Rattle.sheet.proofs.Lays.{laid-rest}
 use borrow.Author.Needs.{needs}
 use Rattle.sheet.proofs.writing.lay_rest.Statement.{statement}
@@ -33,8 +31,8 @@ slice-aggregate-put c = search needs
 put-requires : tie.Need-put-requires
 put-requires c κs = search needs
 
-put-write-requires : tie.Need-put-write-requires
-put-write-requires c κs = search needs
+lay-works-requires : tie.Need-lay-works-requires
+lay-works-requires c κs = search needs
 
 same-length : tie.Need-same-length
 same-length c = search needs
@@ -46,9 +44,8 @@ returns c =
     let start = c .before .before .before .before .before .before .before .before .before .before .before .before .before .before .before .before .before .before .before in
     let r = start .args .r in
     let x = start .args .transfer .now in
-    let y = writeBox (writingIf (r .write .on) (r .write) (start .args .held .now)) in
-    laid-rest _ _ _ _ (take (r .until - r .from) (drop (r .from) x)) y _ (r .lost) (start .args .at) _ _ (omega (arith, start .pre)) (slice-drop x (r .from) (r .until))
-    (put-long .ensures .0) (put-long .ensures .1) (put .ensures .0) (put .ensures .1) (c .before .before .put-write .ensures)
+    laid-rest _ _ _ _ (take (r .until - r .from) (drop (r .from) x)) _ _ (r .lost) (start .args .at) _ _ (omega (arith, start .pre)) (slice-drop x (r .from) (r .until))
+    (put-long .ensures .0) (put-long .ensures .1) (put .ensures .0) (put .ensures .1) (c .before .before .lay-works .ensures)
 
 pub lay-rest-spec : {M : Type 1} → statement M
 lay-rest-spec =
@@ -62,6 +59,6 @@ lay-rest-spec =
     put-long-requires
     slice-aggregate-put
     put-requires
-    put-write-requires
+    lay-works-requires
     same-length
     returns)
