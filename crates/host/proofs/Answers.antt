@@ -73,13 +73,18 @@ module _ (l : List ℕ) (v : Bool) (e : v ≡ formed l) where
 
 -- ---- a new controller
 
-pub new-bad : (l : List ℕ) (w : ℕ) → (length l ≡ controllerLength → ⊥) → w ≡ refusalWord BadController → answered w l ≡ newOn l
+pub new-bad : (k : ℕ) (l : List ℕ) (w : ℕ) → (length l ≡ controllerLength → ⊥) → w ≡ refusalWord BadController → answered w l ≡ newOn k l
 unfolding newOn
-new-bad l w n q = rw (ne-eqb _ _ n) (ap (λ (z : ℕ). answered z l) q)
+new-bad k l w n q = rw (ne-eqb _ _ n) (ap (λ (z : ℕ). answered z l) q)
 
-pub new-good : (l m : List ℕ) → length l ≡ controllerLength → m ≡ over l 0 (replicate controllerLength 0) → answered 0 m ≡ newOn l
-unfolding newOn numbersFor newFloppy
-new-good l m h e = rw (eq-eqb _ _ h) (ap (answered 0) (e ∙ over-front l (replicate controllerLength 0) ∙ ap (λ (z : List ℕ). replicate controllerLength 0 ++ z) (drop-of-length-le l {i = controllerLength} (omega (arith, h)))))
+-- zeros, but for the setting
+zeros-with : (k : ℕ) → set (replicate controllerLength 0) 42 (k % 2) ≡ floppyBytes (newFloppy k)
+unfolding numbersFor newFloppy
+zeros-with k = refl
+
+pub new-good : (k : ℕ) (l m : List ℕ) → length l ≡ controllerLength → m ≡ over l 0 (replicate controllerLength 0) → answered 0 (set m 42 (k % 2)) ≡ newOn k l
+unfolding newOn
+new-good k l m h e = rw (eq-eqb _ _ h) (ap (λ (z : List ℕ). answered 0 (set z 42 (k % 2))) (e ∙ over-front l (replicate controllerLength 0) ∙ ap (λ (z : List ℕ). replicate controllerLength 0 ++ z) (drop-of-length-le l {i = controllerLength} (omega (arith, h))) ∙ append-nil (replicate controllerLength 0)) ∙ ap (answered 0) (zeros-with k))
 
 -- ---- a byte sent: the held bytes are the part behind the numbers
 

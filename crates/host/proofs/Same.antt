@@ -6,7 +6,7 @@ use mathlib.Core.Bool.{Bool, true, false}
 use mathlib.Core.List.{List}
 use lib.ListN.{length}
 use lib.Dec.{leb}
-use borrow.Author.Tests.{eq-eqb}
+use borrow.Author.Tests.{eq-eqb, le-leb}
 use Rattle.fields.specs.Capacities.{mostHeld}
 use Rattle.fields.specs.Refusals.{Result, refused, good}
 use Rattle.registers.specs.declared.regs.Regs.{Regs}
@@ -15,14 +15,14 @@ use Rattle.registers.specs.declared.regs.Seek.the-variants.{Idle, Running, Done
 use Rattle.registers.specs.Boxes.{Sent}
 use Rattle.registers.specs.View.{impossible, impossibleIn}
 use Rattle.registers.specs.Settle.{regsWithMotor, regsWithDrive, regsOf}
-use Rattle.registers.specs.Calls.{statusOf, afterStatusOf, toldIf, statusRead, sourceOf, byteFrom, regsRead, dataRead, switchedIf, motorSet, diskSet, motorOf, currentTrack, diskIn}
+use Rattle.registers.specs.Calls.{statusOf, afterStatusOf, toldIf, statusRead, sourceOf, byteFrom, regsRead, dataRead, switchedIf, motorSet, diskSet, motorOf, currentTrack, diskIn, settingIn}
 use Rattle.commands.specs.Lent.{leftOf}
 use Rattle.sending.specs.Calls.{sentTo, dataWrite}
 use Rattle.floppy.specs.declared.Floppy.{Floppy}
 use Rattle.floppy.specs.Calls.{shownAs, changedAs, wroteAs, statusCall, readCall, writeCall}
 use Rattle.layout.specs.Layout.{controllerLength, flagByte, seekByte, numbersFor, floppyBytes, formed, regsIn, Fitting}
 use Rattle.words.specs.Words.{byteWord, flagWord}
-use Rattle.host.specs.Calls.{motorOn, trackOn, diskOn, toldOn, switchedOn, setMotorOn, setDiskOn, statusOn, readOn, postedOn, writeOn, shownWord, changedWord, wroteWord}
+use Rattle.host.specs.Calls.{motorOn, trackOn, diskOn, settingOn, toldOn, switchedOn, setMotorOn, setDiskOn, statusOn, readOn, postedOn, writeOn, shownWord, changedWord, wroteWord}
 use Rattle.layout.proofs.Inverse.{regs-back}
 
 -- ---- the bytes of a controller are formed
@@ -41,7 +41,7 @@ module _ (f : Floppy) (fits : Fitting (f .regs)) (long : length (f .held) ≡ mo
   unfolding formed numbersFor
   image-formed =
       let n : length (numbersFor (f .regs) (f .held)) ≡ controllerLength = omega (arith, long) in
-      rw (eq-eqb _ _ n, flag-few (f .regs .motor), flag-few (f .regs .write .on), seek-few (f .regs .drive .seek), flag-few (f .regs .drive .disk))
+      rw (eq-eqb _ _ n, flag-few (f .regs .motor), flag-few (f .regs .write .on), seek-few (f .regs .drive .seek), flag-few (f .regs .drive .disk), le-leb (f .regs .setting) 1 (fits .setting-fits), flag-few (f .regs .write .track))
 
   image-in : regsIn (floppyBytes f) ≡ good (f .regs)
   unfolding regsIn
@@ -56,6 +56,10 @@ module _ (f : Floppy) (fits : Fitting (f .regs)) (long : length (f .held) ≡ mo
   pub track-same : trackOn (floppyBytes f) ≡ byteWord (currentTrack (f .regs))
   unfolding trackOn
   track-same = rw image-in
+
+  pub setting-same : settingOn (floppyBytes f) ≡ byteWord (settingIn (f .regs))
+  unfolding settingOn
+  setting-same = rw image-in
 
   pub disk-same : diskOn (floppyBytes f) ≡ flagWord (diskIn (f .regs))
   unfolding diskOn

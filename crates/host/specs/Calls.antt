@@ -28,7 +28,7 @@ use Rattle.registers.specs.declared.regs.Receipt.the-variants as receipt
 use Rattle.registers.specs.declared.regs.Written.{Written}
 use Rattle.registers.specs.declared.regs.Byte.{Byte}
 use Rattle.registers.specs.declared.regs.Byte.the-variants as byte
-use Rattle.registers.specs.Calls.{statusRead, dataRead, motorSet, diskSet, motorOf, currentTrack, diskIn}
+use Rattle.registers.specs.Calls.{statusRead, dataRead, motorSet, diskSet, motorOf, currentTrack, diskIn, settingIn}
 use Rattle.commands.specs.Lent.{Left, left}
 use Rattle.sending.specs.Calls.{dataWrite}
 use Rattle.floppy.specs.Calls.{newFloppy, Wrote, wrote}
@@ -54,6 +54,10 @@ trackOn l = askedOf (regsIn l) (λ r. byteWord (currentTrack r))
 
 unfoldable pub diskOn : List ℕ → ℕ
 diskOn l = askedOf (regsIn l) (λ r. flagWord (diskIn r))
+
+-- the setting that it was made with (2026-06)
+unfoldable pub settingOn : List ℕ → ℕ
+settingOn l = askedOf (regsIn l) (λ r. byteWord (settingIn r))
 
 -- ---- Calls that change one
 
@@ -83,12 +87,12 @@ switchedAs l (done.Refused why) r = answered (refusalWord why) l
 abbrev pub switchedOn : List ℕ → Switched → Answered
 switchedOn l a = switchedAs l (a .done) (a .regs)
 
--- `floppy_new`: 1 for the length
-abbrev pub newIf : Bool → List ℕ → Answered
-newIf fits l = cond fits (answered 0 (floppyBytes newFloppy)) (answered (refusalWord BadController) l)
+-- `floppy_new_with`: 1 for the length; `floppy_new` is setting 0
+abbrev pub newIf : Bool → ℕ → List ℕ → Answered
+newIf fits n l = cond fits (answered 0 (floppyBytes (newFloppy n))) (answered (refusalWord BadController) l)
 
-unfoldable pub newOn : List ℕ → Answered
-newOn l = newIf (eqb (length l) controllerLength) l
+unfoldable pub newOn : ℕ → List ℕ → Answered
+newOn n l = newIf (eqb (length l) controllerLength) n l
 
 unfoldable pub setMotorOn : Bool → List ℕ → Answered
 setMotorOn on l = answeredOf l (regsIn l) (λ r. switchedOn l (motorSet on r))

@@ -5,6 +5,7 @@ use fields::Refusal;
 use fields::SectorId;
 use layout::LENGTH;
 use layout::NUMBERS;
+use layout::SETTING;
 use layout::decode;
 use layout::encode;
 use layout::formed;
@@ -38,7 +39,7 @@ ghost use Rattle.store.specs.Calls.{outcome, loadOf, freshOf, geometryOf, hasOf
 ghost use Rattle.layout.specs.Layout.{controllerLength};
 ghost use Rattle.sheet.specs.Calls.{longestSheet};
 ghost use Rattle.words.specs.Words.{geometryWord, hasWord};
-ghost use Rattle.host.specs.Calls.{answered, toldOn, switchedOn, writtenOn, newOn, setMotorOn, motorOn, trackOn, setDiskOn, diskOn, statusOn};
+ghost use Rattle.host.specs.Calls.{answered, toldOn, switchedOn, writtenOn, newOn, setMotorOn, motorOn, trackOn, setDiskOn, diskOn, settingOn, statusOn};
 ghost use Rattle.host.specs.Calls.{readOn, sending, writeOn, writeSheetOn, takenUp, readSheetOn, worded, imageLengthOn, writeImageOn, partOn};
 
 // ---- lengths
@@ -114,16 +115,44 @@ fn settle(a: Written, controller: &mut [u8]) -> u64
     }
 }
 
-// Makes the bytes a new controller: every one of them is 0 then, whatever they were. 1 for another length, and they stay.
-#[no_mangle]
-pub extern "C" fn floppy_new(controller: &mut [u8]) -> u64
-    ensures { λ r. ⌜ answered r (now (controller .exit)) ≡ newOn (now (controller .entry)) ⌝ }
+// Makes the bytes a new controller with a setting, of which bit 0 is the machine: 0 the Rust's, 1 the data sheet's; other bits mean nothing yet.
+// Every other byte is 0 then, whatever they were. 1 for another length, and they stay.
+fn make(controller: &mut [u8], setting: u8) -> u64
+    ensures { λ r. ⌜ answered r (now (controller .exit)) ≡ newOn setting (now (controller .entry)) ⌝ }
 {
     if controller.len() != LENGTH {
         return refusal_word(Refusal::BadController);
     }
     buffer::fill(controller, 0, LENGTH, 0);
+    controller[SETTING] = setting % 2;
     0
+}
+
+#[no_mangle]
+pub extern "C" fn floppy_new_with(controller: &mut [u8], setting: u8) -> u64
+    ensures { λ r. ⌜ answered r (now (controller .exit)) ≡ newOn setting (now (controller .entry)) ⌝ }
+{
+    make(controller, setting)
+}
+
+// The same with setting 0, the Rust machine.
+#[no_mangle]
+pub extern "C" fn floppy_new(controller: &mut [u8]) -> u64
+    ensures { λ r. ⌜ answered r (now (controller .exit)) ≡ newOn 0 (now (controller .entry)) ⌝ }
+{
+    make(controller, 0)
+}
+
+// Answers the setting that the controller was made with. 1 as a refusal where no controller has these bytes.
+#[no_mangle]
+pub extern "C" fn floppy_setting(controller: &[u8]) -> u64
+    ensures { λ r. ⌜ r ≡ settingOn (now (controller .entry)) ⌝ }
+{
+    if !formed(controller) {
+        return refusal_word(Refusal::BadController);
+    }
+    let regs = decode(controller);
+    byte_word(regs.setting())
 }
 
 // Turns the motor off (0) or on, and changes nothing else. 1 where no controller has these bytes, and they stay.

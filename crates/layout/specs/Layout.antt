@@ -1,6 +1,6 @@
 -- The controller as bytes: 44 bytes of numbers, then the 1,024 held bytes of a write. docs/HOST.md has the same as a table.
 use mathlib.Core.Path.{_≡_}
-use Prim.Native.Nat.{ℕ, zero, suc, _+_, _/_, _%_, _<_}
+use Prim.Native.Nat.{ℕ, zero, suc, _+_, _/_, _%_, _≤_, _<_}
 use mathlib.Core.Bool.{Bool, true, false, not, _&&_}
 use mathlib.Core.List.{List, [], _∷_}
 use lib.ListN.{length, drop}
@@ -148,3 +148,4 @@ pub record Fitting (r : Regs) : Type 0 where
   pub until-fits : r .until < 4294967296
   pub index-fits : r .index < 65536
   pub taken-fits : r .write .taken < 65536
+  pub setting-fits : r .setting ≤ 1

@@ -19,6 +19,9 @@ pub const NUMBERS: usize = 44;
 
 pub const LENGTH: usize = NUMBERS + HELD;
 
+// Where the setting stands.
+pub const SETTING: usize = 42;
+
 pub fn flag_at(b: u8) -> bool
     ensures { λ r. ⌜ r ≡ flagAt b ⌝ }
 {

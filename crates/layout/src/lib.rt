@@ -3,6 +3,7 @@ mod layout;
 
 pub use layout::LENGTH;
 pub use layout::NUMBERS;
+pub use layout::SETTING;
 pub use layout::flag_at;
 pub use layout::flag_byte;
 pub use layout::formed;

@@ -38,7 +38,7 @@ lawful-so x r w =
     let c = le-ltb (r .until) (r .from) (w .unread .read) in
     rw (le-ltb (r .fill) (r .place) (w .reply .read), c, le-ltb 7 (r .fill) (w .reply .few), a, le-ltb 2 (r .lost) (w .unread .few), w .write, b)
 
-pub so-lawful : (x : List ℕ) (r : Regs) → length (r .command) ≡ 9 → length (r .reply) ≡ 7 → Small (r .index) (r .write .taken) → impossibleIn x r ≡ false
+pub so-lawful : (x : List ℕ) (r : Regs) → length (r .command) ≡ 9 → length (r .reply) ≡ 7 → Small (r .index) (r .write .taken) (r .setting) → impossibleIn x r ≡ false
     → Lawful r (transferRoom x)
 so-lawful x r nine seven small e =
     let p = possible r (possible-in x r e) in
@@ -161,13 +161,13 @@ module _ (r : Regs) (room : ℕ) (w : Lawful r room) where
   kept-held b on h =
       let right = held-right (r .write .on) (r .write) (write-right (settingOf (r .setting)) (r .write) (w .write) on) h in
       let most = whole-most (goalOf (r .write)) in
-      let fits : Small (r .index) (r .write .taken + 1) =
-      record { index-fits = w .small .index-fits; taken-fits = omega (arith, h, most) } in
+      let fits : Small (r .index) (r .write .taken + 1) (r .setting) =
+      record { index-fits = w .small .index-fits; taken-fits = omega (arith, h, most); setting-fits = w .small .setting-fits } in
       record { command = w .command; reply = w .reply; unread = w .unread; write = right; small = fits }
 
   pub kept-ended : (b : ℕ) → Lawful (regsChanged Finish (regsTaken (Hold b) r)) room
   kept-ended b =
-      let fits : Small (r .index) 0 = record { index-fits = w .small .index-fits; taken-fits = omega arith } in
+      let fits : Small (r .index) 0 (r .setting) = record { index-fits = w .small .index-fits; taken-fits = omega arith; setting-fits = w .small .setting-fits } in
       record { command = w .command; reply = w .reply; unread = w .unread; write = refl; small = fits }
 
 -- ---- changes that a command brings
@@ -183,15 +183,15 @@ module _ (room : ℕ) where
   }
   kept-change (MoveTo c) r f w = record { command = w .command; reply = w .reply; unread = w .unread; write = w .write; small = w .small }
   kept-change Turn r f w =
-      let fits : Small ((r .index + 1) % 65536) (r .write .taken) = record { index-fits = mod-lt (r .index + 1) (omega arith); taken-fits = w .small .taken-fits } in
+      let fits : Small ((r .index + 1) % 65536) (r .write .taken) (r .setting) = record { index-fits = mod-lt (r .index + 1) (omega arith); taken-fits = w .small .taken-fits; setting-fits = w .small .setting-fits } in
       record { command = w .command; reply = w .reply; unread = w .unread; write = w .write; small = fits }
   kept-change (Start c1 g) r f w =
       let back = sym (goal-kept g) in
-      let fits : Small (r .index) 0 = record { index-fits = w .small .index-fits; taken-fits = omega arith } in
+      let fits : Small (r .index) 0 (r .setting) = record { index-fits = w .small .index-fits; taken-fits = omega arith; setting-fits = w .small .setting-fits } in
       let right = subst (λ (x : Goal). wrongWork (settingOf (r .setting)) c1 x 0 ≡ false) back f in
       record { command = w .command; reply = w .reply; unread = w .unread; write = right; small = fits }
   kept-change Finish r f w =
-      let fits : Small (r .index) 0 = record { index-fits = w .small .index-fits; taken-fits = omega arith } in
+      let fits : Small (r .index) 0 (r .setting) = record { index-fits = w .small .index-fits; taken-fits = omega arith; setting-fits = w .small .setting-fits } in
       record { command = w .command; reply = w .reply; unread = w .unread; write = refl; small = fits }
 
   -- none of them changes what the controller was made with

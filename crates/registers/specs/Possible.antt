@@ -37,10 +37,11 @@ pub record Unread (from until lost room : ℕ) : Type 0 where
   pub inside : until ≤ room
   pub few : lost ≤ 2
 
--- the index and the fill of a write, as small as their types say
-pub record Small (index taken : ℕ) : Type 0 where
+-- the index and the fill of a write, as small as their types say, and a setting that has a meaning
+pub record Small (index taken setting : ℕ) : Type 0 where
   pub index-fits : index < 65536
   pub taken-fits : taken < 65536
+  pub setting-fits : setting ≤ 1
 
 -- arrays and numbers as their types say, numbers that are possible, and unread data inside the transfer room
 pub record Lawful (r : Regs) (room : ℕ) : Type 0 where
@@ -48,7 +49,7 @@ pub record Lawful (r : Regs) (room : ℕ) : Type 0 where
   pub reply : Replying (r .reply) (r .place) (r .fill)
   pub unread : Unread (r .from) (r .until) (r .lost) room
   pub write : wrongWrite (settingOf (r .setting)) (r .write) ≡ false
-  pub small : Small (r .index) (r .write .taken)
+  pub small : Small (r .index) (r .write .taken) (r .setting)
 
 -- ---- What changes and responses must be
 

@@ -18,7 +18,7 @@ use Rattle.registers.specs.View.{roomsOf, insideOf, frontOf, impossible, imposs
 use Rattle.registers.proofs.Numbers.{possible, possible-in}
 use Rattle.registers.proofs.Polls.{polls-empty}
 use Rattle.floppy.specs.Calls.{newFloppy}
-use Rattle.floppy.proofs.Seen.{new-seen}
+use Rattle.floppy.proofs.Seen.{new-seen, setting-few}
 use Rattle.saves.specs.Events.{Event, poll, Answer, denied, Run, run}
 use Rattle.saves.specs.Stages.{Stage, newStage, acted, Unbroken, PutsUnbroken}
 use Rattle.saves.specs.Words.{inDrive}
@@ -63,7 +63,7 @@ module _ (n : ℕ) (t b x : List ℕ) where
   -- A new controller is one.
   pub new-sound : Sound (newHost n t b x)
   unfolding newFloppy impossible impossibleIn commandOf commandBy rows maskRows
-  new-sound = record { nine = refl; seven = refl; held = length-replicate {A = ℕ} mostHeld 0; index-fits = omega arith; taken-fits = omega arith; possible = le-ltb (transferRoom x) 0 (omega arith) }
+  new-sound = record { nine = refl; seven = refl; held = length-replicate {A = ℕ} mostHeld 0; index-fits = omega arith; taken-fits = omega arith; setting-fits = setting-few n; possible = le-ltb (transferRoom x) 0 (omega arith) }
 
   new-stage : newStage (settingOf n) (roomsOf b x) ≡ stageOf (newHost n t b x)
   new-stage i = record { rooms = roomsOf b x; world = sym (new-seen n t b x) i }

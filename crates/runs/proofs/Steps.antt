@@ -52,7 +52,7 @@ held-is false disk d e = never (cc)
 -- ---- what a byte sent keeps
 
 module _ (r : Regs) (b : ℕ) (h t d x : List ℕ) (ok : impossibleIn x r ≡ false) (nine : length (r .command) ≡ 9) (seven : length (r .reply) ≡ 7)
-    (small : Small (r .index) (r .write .taken)) (long : length h ≡ mostHeld) where
+    (small : Small (r .index) (r .write .taken) (r .setting)) (long : length h ≡ mostHeld) where
   abbrev S : Rooms
   S = roomsOf d x
 
@@ -140,8 +140,8 @@ module _ (k : Host) (s : Sound k) where
   abbrev N : ℕ
   N = transferRoom (k .transfer)
 
-  small : Small (R .index) (R .write .taken)
-  small = record { index-fits = s .index-fits; taken-fits = s .taken-fits }
+  small : Small (R .index) (R .write .taken) (R .setting)
+  small = record { index-fits = s .index-fits; taken-fits = s .taken-fits; setting-fits = s .setting-fits }
 
   lawful : Lawful R N
   lawful = so-lawful (k .transfer) R (s .nine) (s .seven) small (s .possible)
@@ -154,6 +154,7 @@ module _ (k : Host) (s : Sound k) where
     held = h;
     index-fits = w .small .index-fits;
     taken-fits = w .small .taken-fits;
+    setting-fits = w .small .setting-fits;
     possible = lawful-so (j .transfer) (j .floppy .regs) w;
   }
 

@@ -1,7 +1,7 @@
 -- The same calls as a host makes them: on a controller, with table, data and transfer buffer lent. Each call is what its promise says
 -- (`crates/floppy/src/lib.rt`).
 use mathlib.Core.Path.{_≡_}
-use Prim.Native.Nat.{ℕ, _<_}
+use Prim.Native.Nat.{ℕ, _≤_, _<_}
 use mathlib.Core.Bool.{false}
 use mathlib.Core.List.{List, _++_}
 use lib.ListN.{length}
@@ -122,14 +122,15 @@ storeOf k = diskOf (k .table) (k .bytes)
 abbrev pub newHost : ℕ → List ℕ → List ℕ → List ℕ → Host
 newHost n t b x = record { floppy = newFloppy n; table = t; bytes = b; transfer = x }
 
--- a controller that is one: its arrays are as long, and its index and the fill of its write as small, as their types say; and its numbers are
--- possible in the transfer buffer that is lent
+-- a controller that is one: its arrays are as long, and its index and the fill of its write as small, as their types say; its setting has a
+-- meaning, and its numbers are possible in the transfer buffer that is lent
 pub record Sound (k : Host) : Type 0 where
   pub nine : length (k .floppy .regs .command) ≡ 9
   pub seven : length (k .floppy .regs .reply) ≡ 7
   pub held : length (k .floppy .held) ≡ mostHeld
   pub index-fits : k .floppy .regs .index < 65536
   pub taken-fits : k .floppy .regs .write .taken < 65536
+  pub setting-fits : k .floppy .regs .setting ≤ 1
   pub possible : impossibleIn (k .transfer) (k .floppy .regs) ≡ false
 
 -- the machine answers and leaves what the call does, seen; and the controller is one then
