@@ -1,10 +1,10 @@
 -- What the calls over a controller's bytes do, by the answers of the calls on its registers.
 use mathlib.Core.Path.{_≡_, refl, sym, ap, _∙_}
-use Prim.Native.Nat.{ℕ, _-_, _≤_}
+use Prim.Native.Nat.{ℕ, _-_, _%_, _≤_}
 use native.Mathlib.Omega.{arith}
 use mathlib.Core.Bool.{Bool, true, false, not}
 use mathlib.Core.List.{List, _++_, append-nil}
-use lib.ListN.{length, take, drop, replicate, drop-of-length-le, length-drop, take-append-drop}
+use lib.ListN.{length, set, take, drop, replicate, drop-of-length-le, length-drop, take-append-drop}
 use lib.Seq.{take-all, drop-at, length-take-le}
 use borrow.Rule.Slice.PartMut.{putMid, midOf}
 use borrow.Author.Tests.{eq-eqb, ne-eqb, not-true, not-false}
@@ -31,7 +31,7 @@ use Rattle.registers.specs.Settle.{regsOf}
 use Rattle.commands.specs.Lent.{left, leftOf}
 use Rattle.sending.specs.Calls.{sentTo, dataWrite}
 use Rattle.floppy.specs.Calls.{newFloppy}
-use Rattle.layout.specs.Layout.{numbersLength, controllerLength, numbersFor, regsAt, heldAt, formed, regsIn}
+use Rattle.layout.specs.Layout.{numbersLength, controllerLength, numbersFor, floppyBytes, regsAt, heldAt, formed, regsIn}
 use Rattle.words.specs.Words.{refusalWord, receiptWord}
 use Rattle.host.specs.Calls.{askedOf, Answered, answered, answeredOf, relaid, newOn, sending, ifTaken, writtenOn, postedOn, writeOn, partWord, partOn}
 use Rattle.layout.proofs.Images.{formed-long}
@@ -84,7 +84,10 @@ zeros-with k = refl
 
 pub new-good : (k : ℕ) (l m : List ℕ) → length l ≡ controllerLength → m ≡ over l 0 (replicate controllerLength 0) → answered 0 (set m 42 (k % 2)) ≡ newOn k l
 unfolding newOn
-new-good k l m h e = rw (eq-eqb _ _ h) (ap (λ (z : List ℕ). answered 0 (set z 42 (k % 2))) (e ∙ over-front l (replicate controllerLength 0) ∙ ap (λ (z : List ℕ). replicate controllerLength 0 ++ z) (drop-of-length-le l {i = controllerLength} (omega (arith, h))) ∙ append-nil (replicate controllerLength 0)) ∙ ap (answered 0) (zeros-with k))
+new-good k l m h e =
+    let zeros : List ℕ = replicate controllerLength 0 in
+    let all = ap (λ (z : List ℕ). zeros ++ z) (drop-of-length-le l {i = controllerLength} (omega (arith, h))) ∙ append-nil zeros in
+    rw (eq-eqb _ _ h) (ap (λ (z : List ℕ). answered 0 (set z 42 (k % 2))) (e ∙ over-front l zeros ∙ all) ∙ ap (answered 0) (zeros-with k))
 
 -- ---- a byte sent: the held bytes are the part behind the numbers
 

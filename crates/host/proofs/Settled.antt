@@ -11,7 +11,7 @@ use Rattle.store.specs.Calls.{Outcome, outcome, loadOf, freshOf, geometryOf, ha
 use Rattle.layout.specs.Layout.{controllerLength}
 use Rattle.sheet.specs.Calls.{longestSheet}
 use Rattle.words.specs.Words.{geometryWord, hasWord}
-use Rattle.host.specs.Calls.{motorOn, trackOn, diskOn, Answered, answered, newOn, setMotorOn, setDiskOn, statusOn, readOn, Sending, sending, writeOn, worded, partOn}
+use Rattle.host.specs.Calls.{motorOn, trackOn, diskOn, settingOn, Answered, answered, newOn, setMotorOn, setDiskOn, statusOn, readOn, Sending, sending, writeOn, worded, partOn}
 use Rattle.host.specs.Calls.{writeSheetOn, TakenUp, takenUp, readSheetOn, imageLengthOn, writeImageOn}
 
 -- ---- by what a promise names
@@ -56,10 +56,14 @@ module _ (r r′ : ℕ) where
   pub disk-settled : (l : List ℕ) → r ≡ diskOn l → r′ ≡ diskOn l → r ≡ r′
   disk-settled l = one-outcome r r′ (diskOn l)
 
+  pub setting-settled : (l : List ℕ) → r ≡ settingOn l → r′ ≡ settingOn l → r ≡ r′
+  setting-settled l = one-outcome r r′ (settingOn l)
+
   -- calls that change one, whose bytes they leave as m
   module _ (l m m′ : List ℕ) where
-    pub new-settled : answered r m ≡ newOn l → answered r′ m′ ≡ newOn l → (r ≡ r′) × (m ≡ m′)
-    new-settled = answered-settled (newOn l) r r′ m m′
+    -- `floppy_new` is setting 0
+    pub new-settled : (n : ℕ) → answered r m ≡ newOn n l → answered r′ m′ ≡ newOn n l → (r ≡ r′) × (m ≡ m′)
+    new-settled n = answered-settled (newOn n l) r r′ m m′
 
     pub set-motor-settled : (on : ℕ) → answered r m ≡ setMotorOn (not (eqb on 0)) l → answered r′ m′ ≡ setMotorOn (not (eqb on 0)) l → (r ≡ r′) × (m ≡ m′)
     set-motor-settled on = answered-settled (setMotorOn (not (eqb on 0)) l) r r′ m m′

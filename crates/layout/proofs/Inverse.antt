@@ -98,6 +98,7 @@ record Flags (l : List ℕ) : Type 0 where
   pub on : byteAt l 31 ≤ 1
   pub seek : byteAt l 40 ≤ 2
   pub disk : byteAt l 41 ≤ 1
+  pub setting : byteAt l 42 ≤ 1
   pub track : byteAt l 43 ≤ 1
 
 flags : (l : List ℕ) → formed l ≡ true → Flags l
@@ -114,8 +115,13 @@ flags l e =
       on = leb-true _ _ (and-fst (at 31 1) _ p2);
       seek = leb-true _ _ (and-fst (at 40 2) _ p3);
       disk = leb-true _ _ (and-fst (at 41 1) _ p4);
+      setting = leb-true _ _ (and-fst (at 42 1) _ p5);
       track = leb-true _ _ (and-snd (at 42 1) _ p5);
     }
+
+-- the setting of formed bytes is one of the two machines
+pub formed-setting : (l : List ℕ) → formed l ≡ true → byteAt l 42 ≤ 1
+formed-setting l e = flags l e .setting
 
 -- bytes that a controller has are those of the registers that are read from them
 module _ (l : List ℕ) (b : (k : ℕ) → byteAt l k < 256) where

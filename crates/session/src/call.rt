@@ -75,6 +75,11 @@ pub(crate) fn remove(controller: &mut Controller) {
 
 // ---- the controller
 
+// Makes a new controller, with no disk in its drive.
+pub(crate) fn machine(setting: usize, controller: &mut Controller) {
+    answer(host::floppy_new_with(controller, (setting % 256) as u8));
+}
+
 pub(crate) fn motor(on: usize, controller: &mut Controller) {
     answer(host::floppy_set_motor(controller, (on % 256) as u8));
 }
@@ -306,7 +311,7 @@ pub(crate) fn resume(
             number,
             path,
             fetched,
-            b" is too long; expected: a sheet of at most 66610 bytes\n",
+            b" is too long; expected: a sheet of at most 66615 bytes\n",
         ),
     }
 }

@@ -39,6 +39,7 @@ fn obey(
         Name::Fresh => call::fresh(controller, table, content),
         Name::Load => call::load(number, line::rest(text), controller, table, content, spare),
         Name::Out => call::remove(controller),
+        Name::Machine => call::machine(n, controller),
         Name::Motor => call::motor(n, controller),
         Name::Status => call::status(n, controller, spare),
         Name::Write => call::write(n, lent, controller, table, content, transfer, spare),

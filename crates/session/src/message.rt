@@ -50,6 +50,7 @@ fn form(name: Name) {
         Name::Fresh => text(b"fresh"),
         Name::Load => text(b"load FILE"),
         Name::Out => text(b"out"),
+        Name::Machine => text(b"machine rust|datasheet"),
         Name::Motor => text(b"motor on|off"),
         Name::Status => text(b"status [N], N from 1 to 65536"),
         Name::Write => text(b"write HEX HEX .., each byte two hex digits"),
@@ -62,7 +63,7 @@ fn form(name: Name) {
         Name::Resume => text(b"resume FILE"),
         Name::Home => text(b"home FILE"),
         Name::Unknown => text(
-            b"fresh, load, out, motor, status, write, read, transfer, geometry, sector, disk, pause, resume or home",
+            b"fresh, load, out, machine, motor, status, write, read, transfer, geometry, sector, disk, pause, resume or home",
         ),
     }
 }

@@ -7,6 +7,7 @@ pub enum Name {
     Fresh,
     Load,
     Out,
+    Machine,
     Motor,
     Status,
     Write,
@@ -71,6 +72,9 @@ fn name_of(word: &[u8]) -> Name {
 }
 
 fn name_of_other(word: &[u8]) -> Name {
+    if buffer::same(word, b"machine") {
+        return Name::Machine;
+    }
     if buffer::same(word, b"geometry") {
         return Name::Geometry;
     }
@@ -96,6 +100,7 @@ fn name_of_other(word: &[u8]) -> Name {
 fn fewest(name: Name) -> usize {
     match name {
         Name::Load => 2,
+        Name::Machine => 2,
         Name::Motor => 2,
         Name::Write => 2,
         Name::Read => 2,
@@ -117,6 +122,7 @@ fn most(name: Name) -> usize {
         Name::Resume => usize::MAX,
         Name::Home => usize::MAX,
         Name::Unknown => usize::MAX,
+        Name::Machine => 2,
         Name::Motor => 2,
         Name::Status => 2,
         Name::Read => 2,
@@ -132,6 +138,17 @@ fn switch(name: Name, word: &[u8]) -> Parsed {
     }
     if buffer::same(word, b"off") {
         return Parsed::Call(name, 0);
+    }
+    Parsed::Wrong(name, Fault::Unfit(1))
+}
+
+// Which machine, as the setting that a controller is made with.
+fn machine(name: Name, word: &[u8]) -> Parsed {
+    if buffer::same(word, b"rust") {
+        return Parsed::Call(name, 0);
+    }
+    if buffer::same(word, b"datasheet") {
+        return Parsed::Call(name, 1);
     }
     Parsed::Wrong(name, Fault::Unfit(1))
 }
@@ -191,6 +208,7 @@ fn list(name: Name, text: &[u8], in_hex: bool, spare: &mut Spare) -> Parsed {
 fn operands(name: Name, text: &[u8], spare: &mut Spare) -> Parsed {
     match name {
         Name::Unknown => Parsed::Wrong(name, Fault::Unknown),
+        Name::Machine => machine(name, line::word(text, 1)),
         Name::Motor => switch(name, line::word(text, 1)),
         Name::Status => {
             if line::count(text) == 1 {
