@@ -10,7 +10,7 @@ use Rattle.fields.specs.declared.refusal.Refusal.the-variants.{BadController, B
 use Rattle.fields.specs.Refusals.{good}
 use Rattle.fields.specs.Model.{Disk, Each}
 use Rattle.fields.proofs.Tests.{never}
-use Rattle.registers.specs.Boxes.{World}
+use Rattle.registers.specs.Boxes.{World, settingOf}
 use Rattle.registers.specs.Ports.{portByte}
 use Rattle.registers.specs.View.{roomsOf, impossibleIn}
 use Rattle.layout.specs.Layout.{regsAt, formed}
@@ -128,23 +128,23 @@ formed-read l f =
     let k : Host = hostAt l in
     (ap (λ (y : Lending). formed (y .controller)) (sym (f .same)) ∙ image-formed (k .floppy) (sound-fitting k (f .sound)) (f .sound .held), f .sound .possible)
 
--- The bytes that `floppy_new` leaves are those of a controller that is one.
-pub new-formed : (t b x : List ℕ) → Formed (newLending t b x)
-new-formed t b x = host-formed (newHost t b x) (new-sound t b x)
+-- The bytes that `floppy_new_with` leaves are those of a controller that is one.
+pub new-formed : (n : ℕ) (t b x : List ℕ) → Formed (newLending n t b x)
+new-formed n t b x = host-formed (newHost n t b x) (new-sound n t b x)
 
-module _ (t b x : List ℕ) (es : List Event) where
-  new-stands : Stands (newLending t b x) (newHost t b x)
-  new-stands = record { sound = new-sound t b x; are = refl }
+module _ (n : ℕ) (t b x : List ℕ) (es : List Event) where
+  new-stands : Stands (newLending n t b x) (newHost n t b x)
+  new-stands = record { sound = new-sound n t b x; are = refl }
 
-  new-is : run acted es (newStage (roomsOf b x)) ≡ run acted es (stageOf (newHost t b x))
-  new-is = new-run t b x es ∙ sym (calls-run es (newHost t b x) (new-sound t b x))
+  new-is : run acted es (newStage (settingOf n) (roomsOf b x)) ≡ run acted es (stageOf (newHost n t b x))
+  new-is = new-run n t b x es ∙ sym (calls-run es (newHost n t b x) (new-sound n t b x))
 
-  -- The same from the bytes that `floppy_new` leaves, and a new machine.
-  pub new-words : run exported es (newLending t b x) .answers ≡ map wordOf (run acted es (newStage (roomsOf b x)) .answers)
-  new-words = machine-words es (newLending t b x) (newHost t b x) new-stands ∙ ap (λ (r : Run Answer Stage). map wordOf (r .answers)) (sym new-is)
+  -- The same from the bytes that `floppy_new_with` leaves, and a new machine.
+  pub new-words : run exported es (newLending n t b x) .answers ≡ map wordOf (run acted es (newStage (settingOf n) (roomsOf b x)) .answers)
+  new-words = machine-words es (newLending n t b x) (newHost n t b x) new-stands ∙ ap (λ (r : Run Answer Stage). map wordOf (r .answers)) (sym new-is)
 
-  pub new-end : stageIn (run exported es (newLending t b x) .end) ≡ run acted es (newStage (roomsOf b x)) .end
-  new-end = machine-end es (newLending t b x) (newHost t b x) new-stands ∙ ap (λ (r : Run Answer Stage). r .end) (sym new-is)
+  pub new-end : stageIn (run exported es (newLending n t b x) .end) ≡ run acted es (newStage (settingOf n) (roomsOf b x)) .end
+  new-end = machine-end es (newLending n t b x) (newHost n t b x) new-stands ∙ ap (λ (r : Run Answer Stage). r .end) (sym new-is)
 
 -- With unread data, no write in progress and lost count L, n status reads leave no data exactly where 3k - L is at most n.
 pub polls-bytes : (n : ℕ) (l : Lending) → Formed l → seenIn l .inside .write ≡ none → 1 ≤ length (seenIn l .front .unread)

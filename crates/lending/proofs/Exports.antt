@@ -30,7 +30,7 @@ use Rattle.runs.proofs.Follows.{follows}
 use Rattle.runs.proofs.Steps.{agrees}
 use Rattle.layout.specs.Layout.{regsAt, floppyBytes, Fitting}
 use Rattle.layout.proofs.Images.{formed-long}
-use Rattle.layout.proofs.Inverse.{regs-back, held-back, written-back}
+use Rattle.layout.proofs.Inverse.{regs-back, held-back, formed-setting, written-back}
 use Rattle.words.specs.Words.{byteWord, flagWord, doneWord, receiptWord, refusalWord}
 use Rattle.host.specs.Calls.{Answered, answered, shownWord, changedWord, wroteWord}
 use Rattle.host.proofs.Parts.{number-in}
@@ -43,7 +43,7 @@ pub sound-fitting : (k : Host) → Sound k → Fitting (k .floppy .regs)
 sound-fitting k s =
     let p = possible (k .floppy .regs) (possible-in (k .transfer) (k .floppy .regs) (s .possible)) in
     let u : k .floppy .regs .until < 4294967296 = omega (arith, until-in (k .transfer) (k .floppy .regs) (s .possible), transfer-in (k .transfer)) in
-    record { nine = s .nine; seven = s .seven; from-fits = omega (arith, p .from-in, u); until-fits = u; index-fits = s .index-fits; taken-fits = s .taken-fits }
+    record { nine = s .nine; seven = s .seven; from-fits = omega (arith, p .from-in, u); until-fits = u; index-fits = s .index-fits; taken-fits = s .taken-fits; setting-fits = s .setting-fits }
 
 -- ---- words
 
@@ -129,9 +129,10 @@ module _ (l : Lending) (f : Readable l) where
   read-sound = record {
     nine = refl;
     seven = refl;
-    held = omega (arith, length-drop 42 (l .controller), formed-long (l .controller) (f .form));
+    held = omega (arith, length-drop 44 (l .controller), formed-long (l .controller) (f .form));
     index-fits = omega (arith, f .are-bytes 29, f .are-bytes 30);
     taken-fits = omega (arith, f .are-bytes 37, f .are-bytes 38);
+    setting-fits = formed-setting (l .controller) (f .form);
     possible = f .possible;
   }
 

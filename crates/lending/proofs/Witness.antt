@@ -6,7 +6,7 @@ use mathlib.Core.Bool.{Bool, true, false, cond}
 use mathlib.Core.List.{List, [], _∷_, map}
 use lib.ListN.{length, take}
 use lib.Dec.{ltb}
-use borrow.Author.Tests.{ltb-true, eq-eqb}
+use borrow.Author.Tests.{ltb-true, lt-ltb, eq-eqb}
 use Rattle.fields.specs.Bytes.{byteAt}
 use Rattle.fields.specs.Refusals.{Result, refused, good}
 use Rattle.fields.proofs.Sizes.{size-2}
@@ -20,7 +20,7 @@ use Rattle.disk.specs.Change.{change, saved}
 use Rattle.home.specs.Home.{units, padded, trackInfo, blockFor, cylindersOf, someTrack, sidesOf, imageFor}
 use Rattle.home.specs.Home.{risingFrom, rising, sideOver1, entriesOver204, sectorsOver29, trackOver65280, unwritable}
 use Rattle.codes.specs.Table.{maskRows, rows, commandBy, commandOf}
-use Rattle.registers.specs.Boxes.{World}
+use Rattle.registers.specs.Boxes.{World, settingOf}
 use Rattle.registers.specs.View.{impossible, impossibleIn}
 use Rattle.registers.specs.Calls.{diskSet}
 use Rattle.registers.specs.declared.regs.Report.{Report}
@@ -59,27 +59,6 @@ small-at [] e k = omega arith
 small-at (x ∷ l) e zero = ltb-true x 256 (small-on (ltb x 256) (small l) e .0)
 small-at (x ∷ l) e (suc k) = small-at l (small-on (ltb x 256) (small l) e .1) k
 
-host-small : small (floppyBytes (host .floppy)) ≡ true
-unfolding small host run called diskSet newFloppy impossible commandOf commandBy rows maskRows numbersFor
-host-small = refl
-
--- what a host lends then
-abbrev pub lentBytes : Lending
-lentBytes = lendingOf host
-
-pub lent-readable : Readable lentBytes
-lent-readable = record {
-  are-bytes = small-at (floppyBytes (host .floppy)) host-small;
-  form = image-formed (host .floppy) (sound-fitting host host-sound) (host-sound .held);
-  possible = ap (λ (y : Host). impossibleIn (y .transfer) (y .floppy .regs)) (host-back host host-sound) ∙ host-sound .possible;
-}
-
-lent-formed : Formed lentBytes
-lent-formed = readable-formed lentBytes lent-readable
-
-lent-ready : Ready (seenIn lentBytes) fresh
-lent-ready = subst (λ (y : Host). Ready (seen y) fresh) (sym (host-back host host-sound)) host-ready
-
 -- ---- nothing is refused
 
 -- lent bytes at which the machine stands at a stage
@@ -87,9 +66,6 @@ record At (l : Lending) (g : Stage) : Type 0 where
   pub host-there : Host
   pub stands-there : Stands l host-there
   pub is : g ≡ stageOf host-there
-
-at-start : At lentBytes start
-at-start = record { host-there = host; stands-there = record { sound = host-sound; are = refl }; is = host-stage }
 
 at-end : (es : List Event) (l : Lending) (g : Stage) → At l g → At (run exported es l .end) (run acted es g .end)
 at-end es l g a = record {
@@ -130,60 +106,89 @@ posts bytes l g a ok = record {
       ∙ ap (λ (y : Stage). words (run acted (sendAll bytes) y .answers)) (sym (a .is)) ∙ sent-words bytes g ok;
 }
 
-at-e : At (run exported E lentBytes .end) (run acted E start .end)
-at-e = at-end E lentBytes start at-start
-
-at-o : At (run exported O lentBytes .end) (run acted O start .end)
-at-o = at-end O lentBytes start at-start
-
-at-b : At (run exported B (run exported E lentBytes .end) .end) (run acted B (run acted E start .end) .end)
-at-b = at-end B (run exported E lentBytes .end) (run acted E start .end) at-e
-
-posts-first : Posts E (bytesOf example) (run exported E lentBytes .answers)
-posts-first = posts (bytesOf example) lentBytes start at-start (grants .first)
-
-posts-last : Posts L (0xFF ∷ []) (run exported L (run exported B (run exported E lentBytes .end) .end) .answers)
-unfolding sendAll
-posts-last = posts (0xFF ∷ []) (run exported B (run exported E lentBytes .end) .end) (run acted B (run acted E start .end) .end) at-b (grants .last)
-
--- ---- so each theorem has something to say
-
--- table and data then hold the disk on which sector 3 of cylinder 7 has the bytes
-pub lent-saves : storeIn (run exported E lentBytes .end) ≡ good (savedBy example fresh)
-lent-saves = save-bytes example fresh lentBytes E lent-formed lent-ready example-is posts-first .0
-
--- the second to sector 3 alone counts
-pub lent-second : storeIn (run exported A (run exported E lentBytes .end) .end) ≡ storeIn (run exported A lentBytes .end)
-lent-second =
-    second-bytes example again fresh lentBytes E A A lent-formed lent-ready example-is again-is same posts-first
-    (posts (bytesOf again) (run exported E lentBytes .end) (run acted E start .end) at-e (grants .second))
-    (posts (bytesOf again) lentBytes start at-start (grants .alone))
-
--- sectors 3 and 4 come in either order
-pub lent-order : storeIn (run exported O (run exported E lentBytes .end) .end) ≡ storeIn (run exported E (run exported O lentBytes .end) .end)
-lent-order =
-    order-bytes example other fresh lentBytes E O O E lent-formed lent-ready example-is other-is differ posts-first
-    (posts (bytesOf other) (run exported E lentBytes .end) (run acted E start .end) at-e (grants .behind))
-    (posts (bytesOf other) lentBytes start at-start (grants .other))
-    (posts (bytesOf example) (run exported O lentBytes .end) (run acted O start .end) at-o (grants .before))
-
--- and so many data-port reads give so many of the bytes and the reply
-pub lent-back : (n : ℕ) → n ≤ 519
-    → wordsRead (reads n) (run exported (reads n) (run exported L (run exported B (run exported E lentBytes .end) .end) .end) .answers) ≡ take n Told
-lent-back n h =
-    told-is n _
-    (back-bytes example fresh 0x46 0 3 0x2A 0xFF lentBytes E B (reads n) lent-formed lent-ready example-is posts-first back-is
-    (posts (readBytes example 0x46 0 3 0x2A) (run exported E lentBytes .end) (run acted E start .end) at-e (grants .begun))
-    posts-last (reads-lose-none n _) (few n h))
-
--- ---- and the disk with the save on it goes home
+-- ---- the disk with the save on it can go home
 
 home-can : unwritable (savedBy example fresh) ≡ false
 unfolding unwritable rising risingFrom sideOver1 entriesOver204 cylindersOf sidesOf sectorsOver29 trackOver65280 someTrack blockFor trackInfo padded units rowsFor contents savedAt addressOf example fresh freshFrom formatted idsFrom blanks change saved
 home-can = rw size-2
 
--- it is read from what is written
-pub lent-home : (s s′ : List ℕ) (w : ℕ) → length (imageFor (savedBy example fresh)) ≤ length s
-    → let end : Lending = run exported E lentBytes .end in
-    answered w s′ ≡ writeImageOn (end .table) (end .bytes) s → dskOf (take (w / 2 ^ 32) s′) ≡ good (record { kind = Extended; disk = savedBy example fresh })
-lent-home s s′ w room e = save-home example fresh lentBytes E lent-formed lent-ready example-is posts-first home-can s s′ w room e .0
+-- ---- so each theorem has something to say, of either machine
+
+module _ (n : ℕ) where
+  -- the machine that it is, with that disk
+  abbrev Start : Stage
+  Start = start (settingOf n)
+
+  host-small : small (floppyBytes (host n .floppy)) ≡ true
+  unfolding small host run called diskSet newFloppy impossible commandOf commandBy rows maskRows numbersFor
+  host-small = rw (lt-ltb (n % 2) 256 (omega arith)) refl
+
+  -- what a host lends then
+  abbrev pub lentBytes : Lending
+  lentBytes = lendingOf (host n)
+
+  pub lent-readable : Readable lentBytes
+  lent-readable = record {
+    are-bytes = small-at (floppyBytes (host n .floppy)) host-small;
+    form = image-formed (host n .floppy) (sound-fitting (host n) (host-sound n)) (host-sound n .held);
+    possible = ap (λ (y : Host). impossibleIn (y .transfer) (y .floppy .regs)) (host-back (host n) (host-sound n)) ∙ host-sound n .possible;
+  }
+
+  lent-formed : Formed lentBytes
+  lent-formed = readable-formed lentBytes lent-readable
+
+  lent-ready : Ready (seenIn lentBytes) fresh
+  lent-ready = subst (λ (y : Host). Ready (seen y) fresh) (sym (host-back (host n) (host-sound n))) (host-ready n)
+
+  at-start : At lentBytes Start
+  at-start = record { host-there = host n; stands-there = record { sound = host-sound n; are = refl }; is = host-stage n }
+
+  at-e : At (run exported E lentBytes .end) (run acted E Start .end)
+  at-e = at-end E lentBytes Start at-start
+
+  at-o : At (run exported O lentBytes .end) (run acted O Start .end)
+  at-o = at-end O lentBytes Start at-start
+
+  at-b : At (run exported B (run exported E lentBytes .end) .end) (run acted B (run acted E Start .end) .end)
+  at-b = at-end B (run exported E lentBytes .end) (run acted E Start .end) at-e
+
+  posts-first : Posts E (bytesOf example) (run exported E lentBytes .answers)
+  posts-first = posts (bytesOf example) lentBytes Start at-start (grants (settingOf n) .first)
+
+  posts-last : Posts L (0xFF ∷ []) (run exported L (run exported B (run exported E lentBytes .end) .end) .answers)
+  unfolding sendAll
+  posts-last = posts (0xFF ∷ []) (run exported B (run exported E lentBytes .end) .end) (run acted B (run acted E Start .end) .end) at-b (grants (settingOf n) .last)
+
+  -- table and data then hold the disk on which sector 3 of cylinder 7 has the bytes
+  pub lent-saves : storeIn (run exported E lentBytes .end) ≡ good (savedBy example fresh)
+  lent-saves = save-bytes example fresh lentBytes E lent-formed lent-ready example-is posts-first .0
+
+  -- the second to sector 3 alone counts
+  pub lent-second : storeIn (run exported A (run exported E lentBytes .end) .end) ≡ storeIn (run exported A lentBytes .end)
+  lent-second =
+      second-bytes example again fresh lentBytes E A A lent-formed lent-ready example-is again-is same posts-first
+      (posts (bytesOf again) (run exported E lentBytes .end) (run acted E Start .end) at-e (grants (settingOf n) .second))
+      (posts (bytesOf again) lentBytes Start at-start (grants (settingOf n) .alone))
+
+  -- sectors 3 and 4 come in either order
+  pub lent-order : storeIn (run exported O (run exported E lentBytes .end) .end) ≡ storeIn (run exported E (run exported O lentBytes .end) .end)
+  lent-order =
+      order-bytes example other fresh lentBytes E O O E lent-formed lent-ready example-is other-is differ posts-first
+      (posts (bytesOf other) (run exported E lentBytes .end) (run acted E Start .end) at-e (grants (settingOf n) .behind))
+      (posts (bytesOf other) lentBytes Start at-start (grants (settingOf n) .other))
+      (posts (bytesOf example) (run exported O lentBytes .end) (run acted O Start .end) at-o (grants (settingOf n) .before))
+
+  -- and so many data-port reads give so many of the bytes and the reply
+  pub lent-back : (k : ℕ) → k ≤ 519
+      → wordsRead (reads k) (run exported (reads k) (run exported L (run exported B (run exported E lentBytes .end) .end) .end) .answers) ≡ take k Told
+  lent-back k h =
+      told-is k _
+      (back-bytes example fresh 0x46 0 3 0x2A 0xFF lentBytes E B (reads k) lent-formed lent-ready example-is posts-first back-is
+      (posts (readBytes example 0x46 0 3 0x2A) (run exported E lentBytes .end) (run acted E Start .end) at-e (grants (settingOf n) .begun))
+      posts-last (reads-lose-none k _) (few k h))
+
+  -- and the disk with the save on it goes home: it is read from what is written
+  pub lent-home : (s s′ : List ℕ) (w : ℕ) → length (imageFor (savedBy example fresh)) ≤ length s
+      → let end : Lending = run exported E lentBytes .end in
+      answered w s′ ≡ writeImageOn (end .table) (end .bytes) s → dskOf (take (w / 2 ^ 32) s′) ≡ good (record { kind = Extended; disk = savedBy example fresh })
+  lent-home s s′ w room e = save-home example fresh lentBytes E lent-formed lent-ready example-is posts-first home-can s s′ w room e .0
