@@ -26,7 +26,7 @@ use Rattle.store.specs.declared.answer.Extent.the-variants as extent
 use Rattle.store.specs.Calls.{penned, pennedTo}
 use Rattle.sheet.specs.Sheets.{boxesOf, paperOf, sheetOf, wrongBoxes, worldIn, Writable}
 use Rattle.sheet.specs.Calls.{longestSheet, boxesSeen, sheetWritten, heldFor, regsFor, takenFrom, resuming, sheetRead}
-use Rattle.sheet.proofs.Gives.{gives-seen, gives-possible, seen-right, gives-nine, gives-seven, gives-held, gives-taken}
+use Rattle.sheet.proofs.Gives.{gives-seen, gives-possible, seen-right, gives-nine, gives-seven, gives-held, gives-taken, setting-fits}
 use Rattle.sheet.proofs.Lengths.{sheet-most}
 use Rattle.sheet.proofs.Rounds.{sheet-back, accepted-right, accepted-empty, accepted-index}
 use Rattle.saves.specs.Events.{Event, Answer, Next, run, swap, widen}
@@ -123,6 +123,7 @@ module _ (w : World) (t b x : List ℕ) (right : wrongBoxes w ≡ false) (index 
     held = gives-held w right;
     index-fits = index;
     taken-fits = gives-taken w right;
+    setting-fits = setting-fits w;
     possible = gives-possible w x right fits;
   }
 

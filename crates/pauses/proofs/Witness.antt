@@ -27,9 +27,11 @@ pub busy-sound : (t b : List ℕ) → Sound (hostFrom busy t b (0 ∷ 0 ∷ 0 �
 unfolding busy transferRoom
 busy-sound t b = sheet-sound (sheetOf busy) busy t b (0 ∷ 0 ∷ 0 ∷ []) busy-bytes busy-back (omega arith)
 
--- The example's save on a fresh disk, paused after any number of its bytes and taken up, with anything lent beside it: the rest answers the same,
--- and the same store is left.
-pub save-paused : (n : ℕ) (t b : List ℕ)
-    → let k : Host = run called (take n E) host .end in let j : Host = diskBack k (hostFrom (seen k) t b (k .transfer)) in
+-- The example's save on a fresh disk, on either machine, paused after any number of its bytes and taken up, with anything lent beside it: the rest
+-- answers the same, and the same store is left.
+pub save-paused : (setting n : ℕ) (t b : List ℕ)
+    → let k : Host = run called (take n E) (host setting) .end in let j : Host = diskBack k (hostFrom (seen k) t b (k .transfer)) in
     (run called (drop n E) k .answers ≡ run called (drop n E) j .answers) × Alike (run called (drop n E) k .end) (run called (drop n E) j .end)
-save-paused n t b = goes-on-same (run called (take n E) host .end) t b (run called (take n E) host .end .transfer) (calls-sound (take n E) host host-sound) refl (drop n E)
+save-paused setting n t b =
+    let k : Host = run called (take n E) (host setting) .end in
+    goes-on-same k t b (k .transfer) (calls-sound (take n E) (host setting) (host-sound setting)) refl (drop n E)

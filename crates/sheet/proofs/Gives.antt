@@ -63,6 +63,15 @@ setting-same x = go (x .machine)
     go Rust = refl
     go DataSheet = refl
 
+-- and the number that it is kept as is one of the two
+pub setting-fits : (w : World) → regsFor w .setting ≤ 1
+unfolding regsFor
+setting-fits w = go (w .inside .setting .machine)
+  where
+    go : (m : Machine) → machineByte m ≤ 1
+    go Rust = omega arith
+    go DataSheet = omega arith
+
 write-same : (x : Setting) (w : Option Writing) → wrongWrite x (pendingFor w) ≡ wrongWriting x w
 write-same x none = refl
 write-same x (some w) = ap (λ (g : Goal). wrongWork x (w .c1) g (length (w .held))) (goal-kept (w .goal))
