@@ -6,7 +6,7 @@ use raze::disk::Disk;
 use raze::floppy::Boxes;
 
 use crate::capacities::{MOST_TRANSFER, Totals, transfer_refusal};
-use crate::datasheet::{Machine, Model};
+use crate::datasheet::{Format, Machine, Model};
 use crate::session::{Call, Hex, Session, Shown, Slot};
 use crate::sheet::Sheet;
 use crate::{Failure, dump, load};
@@ -71,7 +71,10 @@ impl Bench {
             }
             Call::Send { times, bytes } => return Ok(self.send(*times, bytes)),
             Call::Ask => self.print_asked(out)?,
-            Call::Boxes => print_boxes(&self.floppy.boxes(), out)?,
+            Call::Boxes => {
+                print_boxes(&self.floppy.boxes(), out)?;
+                print_work(&self.floppy, out)?;
+            }
             Call::Sheet => {
                 let sheet = Sheet::of(&self.floppy).bytes();
                 write!(out, " {}{}", sheet.len(), Shown(&sheet))?;
@@ -172,12 +175,30 @@ fn print_boxes(boxes: &Boxes, out: &mut impl Write) -> io::Result<()> {
     write!(out, " command{}", Hex(boxes.command))?;
     write!(out, " reply{}", Hex(boxes.reply))?;
     let (data, check) = (boxes.data.len(), dump::check(boxes.data));
-    write!(out, " data {data} {check}")?;
-    let Some((c1, id, left, held)) = boxes.write else {
+    write!(out, " data {data} {check}")
+}
+
+/// The write or the Format in progress: how many bytes it still takes, its numbers, and the
+/// check number of the bytes that it has.
+fn print_work(floppy: &Model, out: &mut impl Write) -> io::Result<()> {
+    if let Some(format) = floppy.format() {
+        let Format {
+            c1,
+            n,
+            count,
+            gap,
+            filler,
+            ..
+        } = *format;
+        let (left, five) = (format.left(), [c1, n, count, gap, filler]);
+        let check = dump::check(&format.ids);
+        return write!(out, " format {left}{} {check}", Hex(&five));
+    }
+    let Some((c1, id, left, held)) = floppy.boxes().write else {
         return write!(out, " write none");
     };
-    let id = [c1, id.c, id.h, id.r, id.n];
-    write!(out, " write {left}{} {}", Hex(&id), dump::check(held))
+    let five = [c1, id.c, id.h, id.r, id.n];
+    write!(out, " write {left}{} {}", Hex(&five), dump::check(held))
 }
 
 /// Prints the disk whole, or where that is long its totals and two check numbers:

@@ -101,16 +101,26 @@ fn seek_number(seek: Seek) -> usize {
     }
 }
 
-// The write in progress: how many bytes it still takes, its c1 and ID, and the check number of those that it has.
+fn work(track: bool) {
+    if track {
+        return replay::put(b" format");
+    }
+    replay::put(b" write")
+}
+
+// The write or the Format in progress: how many bytes it still takes, its c1 and ID or shape, and the check number of
+// those that it has.
 fn write(f: Floppy) {
     let w = f.regs.write;
-    let id = w.id;
     if !w.on {
         return replay::put(b" write none\n");
     }
     let taken = w.taken as usize;
-    number(b" write", distance(taken, id.len()));
-    let five = [w.c1, id.c, id.h, id.r, id.n];
+    work(w.track);
+    let goal = w.goal();
+    replay::field(distance(taken, goal.whole()) as u64);
+    let t = w.target;
+    let five = [w.c1, t.one, t.two, t.three, t.four];
     hex(&five);
     let held = f.held;
     replay::field(replay::check_of(buffer::part(&held, 0, taken)) as u64);
