@@ -55,9 +55,6 @@ impl Bench {
         if self.transfer < MOST_TRANSFER && is_lent_transfer(call) {
             return Ok(Err("not all of the transfer buffer is lent".to_owned()));
         }
-        if self.floppy.format().is_some() && matches!(call, Call::Boxes) {
-            return Ok(Err("boxes do not show a Format that takes IDs".to_owned()));
-        }
         match call {
             Call::Put(slot) => self.put(*slot),
             Call::Motor(on) => self.floppy.set_motor(*on),

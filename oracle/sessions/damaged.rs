@@ -250,8 +250,7 @@ fn format_of(numbers: [u8; 5], ids: usize, machine: u8, write: &[u8]) -> Vec<u8>
 }
 
 /// Formats that lack IDs, that have all or more; boxes too short for the numbers; every
-/// drive; of the Rust machine, and beside a write. Boxes do not show a Format, but a sheet
-/// that is written does.
+/// drive; of the Rust machine, and beside a write. A sheet that is written shows all of it.
 fn add_formats(list: &mut List) {
     let pending = |c1, count, ids| format_of([c1, 1, count, 0x2a, 0xe5], ids, 1, &[]);
     let counts = [(0, 0), (0, 1), (1, 0), (1, 3), (1, 4), (1, 5), (9, 35)];

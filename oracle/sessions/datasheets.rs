@@ -124,7 +124,7 @@ fn add_ids(list: &mut List) {
 }
 
 /// What the phase is beside: unread data, which no poll loses, an old reply, a seek that is
-/// done; and a sheet at every step.
+/// done; and the boxes and a sheet at every step.
 fn add_phases(list: &mut List) {
     let mut calls = vec![
         send(&read_data(0, [0, 0, 1, 0], 1)),
@@ -134,7 +134,7 @@ fn add_phases(list: &mut List) {
         status(9),
     ];
     for (place, id) in ids(0, [3, 4], 1).concat().into_iter().enumerate() {
-        calls.extend([Call::Sheet, send(&[id]), status(1)]);
+        calls.extend([Call::Boxes, Call::Sheet, send(&[id]), status(1)]);
         if place == 5 {
             calls.push(read(30));
         }
@@ -240,16 +240,16 @@ fn add_versions(list: &mut List) {
     add_one(list, "of-each-version", &calls);
 }
 
-/// Commands by noise. Boxes do not show a Format, so a sheet is written in their place; at
-/// the end a new controller is taken up.
+/// Commands by noise. Where the boxes are shown a sheet is written too, so that what is
+/// paused at any place goes on; at the end a new controller is taken up.
 fn add_noise(list: &mut List) {
     for number in 0..SESSIONS {
         let mut noise = Noise::new(9_000 + number);
         let disks = [traffic::disk(&mut noise), traffic::disk(&mut noise)];
         let turns = (0..TURNS).flat_map(|_| traffic::turn(&mut noise));
-        let shown = turns.map(|call| match call {
-            Call::Boxes => Call::Sheet,
-            other => other,
+        let shown = turns.flat_map(|call| match call {
+            Call::Boxes => vec![Call::Boxes, Call::Sheet],
+            other => vec![other],
         });
         let calls: Vec<Call> = shown.chain([begin(Machine::DataSheet)]).collect();
         add_two(list, &format!("traffic-{number:02}"), disks, &calls);
