@@ -280,11 +280,11 @@ impl Regs {
     fn wrong_write(self) -> bool
         ensures { λ r. ⌜ r ≡ wrongWrite (settingOf (self .setting)) (self .write) ⌝ }
     {
-        let p = self.write;
-        if !p.on {
+        if !self.write.on {
             return false;
         }
-        wrong_work(self.setting, p.c1, p.goal(), p.taken as usize)
+        let goal = goal_of(self.write.track, self.write.target);
+        wrong_work(self.setting, self.write.c1, goal, self.write.taken as usize)
     }
 
     // Numbers that no controller has.
