@@ -8,3 +8,4 @@ pub mod Rounds
 pub mod Leaves
 pub mod Indexes
 pub mod Pens
+pub mod Blanks
