@@ -4,7 +4,7 @@ use std::fmt;
 
 use raze::floppy::SectorId;
 
-use crate::datasheet::{Format, Model};
+use crate::datasheet::Model;
 
 /// Where the fields of a controller stand. The goal of a write is the ID of a sector, or n,
 /// count, gap and filler of a Format: its kind tells which.
@@ -107,7 +107,7 @@ impl View<'_> {
                     && held == bytes
             }
             (Some((TRACK, held)), None, Some(format)) => {
-                self.numbers() == of_track(format) && held == format.ids
+                self.numbers() == format.numbers() && held == format.ids
             }
             _ => false,
         }
@@ -117,19 +117,6 @@ impl View<'_> {
 /// The c1 and the goal of a write of this sector.
 fn of_sector(c1: u8, id: &SectorId) -> [u8; 5] {
     [c1, id.c, id.h, id.r, id.n]
-}
-
-/// The c1 and the goal of this Format.
-fn of_track(format: &Format) -> [u8; 5] {
-    let Format {
-        c1,
-        n,
-        count,
-        gap,
-        filler,
-        ..
-    } = *format;
-    [c1, n, count, gap, filler]
 }
 
 /// The boxes in words.
@@ -181,7 +168,7 @@ impl fmt::Display for Rust<'_> {
         )?;
         match (boxes.write, self.0.format()) {
             (Some((c1, id, _, held)), _) => write_sector(f, &of_sector(c1, id), held),
-            (None, Some(format)) => write_track(f, &of_track(format), &format.ids),
+            (None, Some(format)) => write_track(f, &format.numbers(), &format.ids),
             (None, None) => write!(f, "write none"),
         }
     }

@@ -52,6 +52,11 @@ impl Format {
         (4 * usize::from(self.count)).saturating_sub(self.ids.len())
     }
 
+    /// The second byte of its command, and the four behind it.
+    pub fn numbers(&self) -> [u8; 5] {
+        [self.c1, self.n, self.count, self.gap, self.filler]
+    }
+
     /// The head that it formats.
     pub fn head(&self) -> u8 {
         self.c1 >> 2 & 1

@@ -92,8 +92,7 @@ impl Write {
 impl Format {
     /// The bytes of its box.
     fn bytes(&self) -> Vec<u8> {
-        let numbers = [self.c1, self.n, self.count, self.gap, self.filler];
-        [&numbers, &self.ids[..]].concat()
+        [&self.numbers(), &self.ids[..]].concat()
     }
 
     /// The Format in a box, which may be none, if the box is as long as one.

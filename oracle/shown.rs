@@ -6,7 +6,7 @@ use raze::disk::Disk;
 use raze::floppy::Boxes;
 
 use crate::capacities::{MOST_TRANSFER, Totals, transfer_refusal};
-use crate::datasheet::{Format, Machine, Model};
+use crate::datasheet::{Machine, Model};
 use crate::session::{Call, Hex, Session, Shown, Slot};
 use crate::sheet::Sheet;
 use crate::{Failure, dump, load};
@@ -179,17 +179,8 @@ fn print_boxes(boxes: &Boxes, out: &mut impl Write) -> io::Result<()> {
 /// check number of the bytes that it has.
 fn print_work(floppy: &Model, out: &mut impl Write) -> io::Result<()> {
     if let Some(format) = floppy.format() {
-        let Format {
-            c1,
-            n,
-            count,
-            gap,
-            filler,
-            ..
-        } = *format;
-        let (left, five) = (format.left(), [c1, n, count, gap, filler]);
-        let check = dump::check(&format.ids);
-        return write!(out, " format {left}{} {check}", Hex(&five));
+        let (left, check) = (format.left(), dump::check(&format.ids));
+        return write!(out, " format {left}{} {check}", Hex(&format.numbers()));
     }
     let Some((c1, id, left, held)) = floppy.boxes().write else {
         return write!(out, " write none");
