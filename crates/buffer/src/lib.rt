@@ -1,4 +1,6 @@
 // The operations on byte slices that every crate above uses: copy, fill, compare, parts, and moves inside one.
+#![tactic(auto)]
+
 mod moves;
 
 ghost use Rattle.std.specs.Prelude.{◌≡◌, ◌+◌, ◌≤◌, length, take, drop, replicate};

@@ -1,6 +1,8 @@
 // Replays the list of scripts in `stdin`: loads a script's disk, then formats, saves, reads and asks for IDs as it
 // says, and prints what each call answers and what the disk then holds, in the form in which the Rust's own answers
 // stand in `stdout`. docs/ORACLE.md has both forms. The store is not cleared between two scripts.
+#![tactic(auto)]
+
 ghost use Rattle.std.specs.Prelude.{◌+◌, ◌*◌, ◌<◌, ◌≤◌};
 
 use fields::SectorId;

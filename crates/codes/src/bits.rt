@@ -3,7 +3,7 @@ ghost use Rattle.std.specs.Prelude.{◌≡◌};
 ghost use Rattle.codes.specs.Second.{u};
 
 // The main status register.
-#[derive(Drop)]
+#[derive(Clone, Copy)]
 pub struct MainReg {
     pub bits: u8,
 }
@@ -27,7 +27,7 @@ impl MainReg {
 }
 
 // Status register 0.
-#[derive(Drop)]
+#[derive(Clone, Copy)]
 pub struct St0 {
     pub bits: u8,
 }
@@ -58,7 +58,7 @@ impl St0 {
 }
 
 // Status register 3.
-#[derive(Drop)]
+#[derive(Clone, Copy)]
 pub struct St3 {
     pub bits: u8,
 }

@@ -2,7 +2,7 @@
 ghost use Rattle.std.specs.Prelude.{◌≡◌};
 ghost use Rattle.codes.specs.Table.{mask_rows, command_by, command_of, bytes_for};
 
-#[derive(Drop)]
+#[derive(Clone, Copy)]
 pub enum Command {
     Specify,
     SenseDrive,

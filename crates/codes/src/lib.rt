@@ -1,4 +1,6 @@
 // Which command a first byte begins and how many bytes it has, what a second byte names, and the bits of the status registers.
+#![tactic(auto)]
+
 mod bits;
 mod command;
 mod second;

@@ -5,7 +5,7 @@ ghost use Rattle.disk.specs.Calls.{end_of};
 use fields::{Refusal, St1, St2};
 use store::Match;
 
-#[derive(Drop)]
+#[derive(Clone, Copy)]
 pub enum Saved {
     Good(Match),
     Missing,
@@ -13,7 +13,7 @@ pub enum Saved {
 }
 
 // What a read put into the transfer buffer: how many bytes, how many the sizes by n would be, the first sector's status bytes, and which of its track it is.
-#[derive(Drop)]
+#[derive(Clone, Copy)]
 pub struct Served {
     pub total: usize,
     pub sizes: usize,
@@ -42,7 +42,7 @@ impl Served {
     }
 }
 
-#[derive(Drop)]
+#[derive(Clone, Copy)]
 pub enum Reading {
     Good(Served),
     Missing,

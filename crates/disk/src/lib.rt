@@ -1,4 +1,6 @@
 // Reading and saving the sectors of a disk in a store. `specs/` says what every change and read of a disk does.
+#![tactic(auto)]
+
 mod answer;
 mod saving;
 mod serve;

@@ -12,7 +12,7 @@ use fields::{Refusal, SectorId};
 use store::{Match, Place, locate, room_of};
 
 // What a save will do: refuse, find no sector, or put its bytes over those of the sector `which`, [from, to), before the others up to `end`.
-#[derive(Drop)]
+#[derive(Clone, Copy)]
 enum Plan {
     Refused(Refusal),
     Missing,

@@ -13,7 +13,7 @@ use store::{
 };
 
 // How many sectors a read finds, and how many bytes they store.
-#[derive(Drop)]
+#[derive(Clone, Copy)]
 pub struct Extent {
     pub sectors: usize,
     pub total: usize,

@@ -2,7 +2,7 @@
 ghost use Rattle.std.specs.Prelude.{◌≡◌};
 ghost use Rattle.fields.specs.Model.{size_of, copies};
 
-#[derive(Drop)]
+#[derive(Clone, Copy)]
 pub struct SectorId {
     pub c: u8,
     pub h: u8,
@@ -47,7 +47,7 @@ impl SectorId {
 }
 
 // Status register 1. A loaded byte keeps every bit.
-#[derive(Drop)]
+#[derive(Clone, Copy)]
 pub struct St1 {
     pub bits: u8,
 }
@@ -71,7 +71,7 @@ impl St1 {
 }
 
 // Status register 2. A loaded byte keeps every bit.
-#[derive(Drop)]
+#[derive(Clone, Copy)]
 pub struct St2 {
     pub bits: u8,
 }

@@ -1,4 +1,6 @@
 // What everything above reads with: the byte readers, a sector's ID and status bytes, the capacities, and the refusals with their numbers.
+#![tactic(auto)]
+
 mod capacity;
 mod id;
 mod read;

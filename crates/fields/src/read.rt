@@ -4,13 +4,13 @@ ghost use Rattle.fields.specs.Bytes.{byte_at, number_at, read_number, read_strin
 
 use crate::refusal::Refusal;
 
-#[derive(Drop)]
+#[derive(Clone, Copy)]
 pub enum Read {
     Refused(Refusal),
     Number(u32),
 }
 
-#[derive(Drop)]
+#[derive(Clone, Copy)]
 pub enum Text {
     Refused(Refusal),
     Same,

@@ -1,4 +1,6 @@
 // The floppy controller uPD765A, over a disk that is kept in a lent table and a lent data buffer. What is read lies in a lent transfer buffer.
+#![tactic(auto)]
+
 ghost use Rattle.std.specs.Prelude.{◌≡◌};
 ghost use Rattle.floppy.specs.Calls.{new_floppy, shown, sent_as, changed_as, wrote, status_call, read_call, write_call};
 ghost use Rattle.registers.specs.Calls.{motor_set, disk_set, motor_of, current_track, disk_in, setting_in};
@@ -8,28 +10,28 @@ use registers::{Byte, Drive, Flag, Pending, Receipt, Regs, Seek};
 use store::Done;
 
 // A controller: its registers, and beside them the bytes of an unfinished write.
-#[derive(Drop)]
+#[derive(Clone, Copy)]
 pub struct Floppy {
     pub regs: Regs,
     pub held: [u8; HELD],
 }
 
 // What a port read answers, with the controller then.
-#[derive(Drop)]
+#[derive(Clone, Copy)]
 pub struct Shown {
     pub byte: Byte,
     pub floppy: Floppy,
 }
 
 // What a byte sent answers, with the controller then.
-#[derive(Drop)]
+#[derive(Clone, Copy)]
 pub struct After {
     pub receipt: Receipt,
     pub floppy: Floppy,
 }
 
 // What a change of motor or disk answers, with the controller then.
-#[derive(Drop)]
+#[derive(Clone, Copy)]
 pub struct Changed {
     pub done: Done,
     pub floppy: Floppy,

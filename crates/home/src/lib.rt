@@ -1,4 +1,6 @@
 // The disk goes home: the extended image of the disk that a store holds. `specs/Home.antt` says which bytes it has.
+#![tactic(auto)]
+
 mod measure;
 mod write;
 

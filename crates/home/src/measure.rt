@@ -9,7 +9,7 @@ use fields::{Refusal, SECTORS, TRACKS};
 use store::{Extent, TABLE, greater, room_of, rows_len};
 
 // What the tracks that were met come to.
-#[derive(Drop)]
+#[derive(Clone, Copy)]
 pub struct Met {
     // the least that cylinder and side of the next track may be, as one number
     pub next: usize,
@@ -22,21 +22,21 @@ pub struct Met {
     pub long: usize,
 }
 
-#[derive(Drop)]
+#[derive(Clone, Copy)]
 pub enum Measured {
     Bad,
     Of(Met),
 }
 
 // What an image has in its disk block, and how long it is.
-#[derive(Drop)]
+#[derive(Clone, Copy)]
 pub struct Shape {
     pub cylinders: usize,
     pub sides: usize,
     pub long: u32,
 }
 
-#[derive(Drop)]
+#[derive(Clone, Copy)]
 pub enum Shaped {
     Refused(Refusal),
     Of(Shape),

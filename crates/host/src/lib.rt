@@ -1,5 +1,6 @@
 // The exported calls, for C and Rust: on numbers and byte slices, each with one word for its answer. docs/HOST.md describes them.
 // Nothing is kept between two calls: a controller and a disk are the bytes that the host lends.
+#![tactic(auto)]
 
 ghost use Rattle.std.specs.Prelude.{◌≡◌, not, length, eqb};
 ghost use Rattle.store.specs.Store.{table_length, disk_of};

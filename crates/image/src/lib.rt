@@ -1,5 +1,7 @@
 // Reading a DSK image, normal or extended: the walk over an image that everything above is built on.
 // `specs/Dsk.antt` says what an image holds.
+#![tactic(auto)]
+
 mod walk;
 
 pub use walk::{Opened, Step, Surveyed, Totals, Walk, open, survey};

@@ -7,21 +7,21 @@ use fields::{Refusal, Text, byte, read_string, word};
 use tracks::{Block, Head, Kind, read_track};
 
 // What the signature of an image names.
-#[derive(Drop)]
+#[derive(Clone, Copy)]
 enum Signature {
     Refused(Refusal),
     Of(Kind),
 }
 
 // A track's place in the table of an image: not there, or so many bytes.
-#[derive(Drop)]
+#[derive(Clone, Copy)]
 enum Entry {
     Absent,
     Size(u16),
 }
 
 // How far a walk has come: the next entry, how many there are, and where the next track stands.
-#[derive(Drop)]
+#[derive(Clone, Copy)]
 pub struct Walk {
     pub kind: Kind,
     pub entry: usize,
@@ -30,7 +30,7 @@ pub struct Walk {
 }
 
 // How much an image holds.
-#[derive(Drop)]
+#[derive(Clone, Copy)]
 pub struct Totals {
     pub tracks: usize,
     pub sectors: usize,
@@ -38,19 +38,19 @@ pub struct Totals {
 }
 
 // What an image that is good holds, and the walk over it, at its first entry.
-#[derive(Drop)]
+#[derive(Clone, Copy)]
 pub enum Surveyed {
     Refused(Refusal),
     Good(Totals, Walk),
 }
 
-#[derive(Drop)]
+#[derive(Clone, Copy)]
 pub enum Opened {
     Refused(Refusal),
     Ready(Walk),
 }
 
-#[derive(Drop)]
+#[derive(Clone, Copy)]
 pub enum Step {
     Refused(Refusal),
     End,

@@ -1,4 +1,6 @@
 // The listing program: reads an image from standard input and prints what it holds.
+#![tactic(auto)]
+
 use libc::{STDIN_FILENO, STDOUT_FILENO};
 
 // One byte more than an image may have, so that a longer one shows.

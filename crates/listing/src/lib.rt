@@ -1,4 +1,6 @@
 // The listing of an image: its text is the definition in `specs/Text.antt`.
+#![tactic(auto)]
+
 mod text;
 
 ghost use Rattle.std.specs.Prelude.{◌≡◌, ◌≤◌, length};

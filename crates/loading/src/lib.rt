@@ -1,4 +1,6 @@
 // Laying a disk in a store: load, fresh format, and the parts of them that a format needs.
+#![tactic(auto)]
+
 mod lay;
 
 pub use lay::{new, new_formatted};

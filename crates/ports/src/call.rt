@@ -20,7 +20,7 @@ const LONGEST: usize = 131072;
 
 // The controller, whether it is lent to the port calls, which disk is in its drive (0 none, 1 A, 2 B), and how many bytes
 // of each buffer are lent.
-#[derive(Drop)]
+#[derive(Clone, Copy)]
 pub struct Bench {
     pub floppy: Floppy,
     pub lent: bool,
@@ -31,7 +31,7 @@ pub struct Bench {
 }
 
 // What port reads gave, whether they were refused, and the controller then.
-#[derive(Drop)]
+#[derive(Clone, Copy)]
 struct Answers {
     floppy: Floppy,
     heard: Heard,
@@ -39,7 +39,7 @@ struct Answers {
 }
 
 // How far bytes were sent: whole rounds, bytes of the next one, whether all, and the controller then.
-#[derive(Drop)]
+#[derive(Clone, Copy)]
 struct Sent {
     floppy: Floppy,
     rounds: usize,

@@ -15,7 +15,7 @@ const CALLS: usize = 131328;
 const END: usize = 196864;
 
 // How many bytes each of them has.
-#[derive(Drop)]
+#[derive(Clone, Copy)]
 pub struct Session {
     pub name: usize,
     pub a: usize,
@@ -23,7 +23,7 @@ pub struct Session {
     pub calls: usize,
 }
 
-#[derive(Drop)]
+#[derive(Clone, Copy)]
 pub enum Next {
     End,
     Broken,

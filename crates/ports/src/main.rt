@@ -2,6 +2,8 @@
 // what each call answers and what the controller and the disks hold in the end, in the form in which the Rust's own
 // answers stand in `stdout`. docs/ORACLE.md has both forms. Every session is replayed twice: with the port calls by value,
 // and, the buffers wiped, with those over a lent controller. The buffers are not cleared between two sessions.
+#![tactic(auto)]
+
 mod call;
 mod list;
 mod sheets;

@@ -11,7 +11,7 @@ const MOST_HEX: usize = 24;
 const MOST_PRINTED: usize = 40;
 
 // What port reads gave: how many bytes, their check number, and the first of them.
-#[derive(Drop)]
+#[derive(Clone, Copy)]
 pub struct Heard {
     pub count: usize,
     pub check: u32,

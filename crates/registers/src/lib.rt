@@ -1,4 +1,6 @@
 // The controller's registers by value: what port reads do, and the changes that commands bring. The held bytes of a write are not among them.
+#![tactic(auto)]
+
 mod port;
 mod regs;
 

@@ -11,7 +11,7 @@ use fields::{Refusal, SectorId};
 use store::{Done, Match};
 
 // The state of the last seek.
-#[derive(Drop)]
+#[derive(Clone, Copy)]
 pub enum Seek {
     Idle,
     Running,
@@ -19,7 +19,7 @@ pub enum Seek {
 }
 
 // A drive: the cylinder that its head is over, the state of its last seek, and whether a disk is in it.
-#[derive(Drop)]
+#[derive(Clone, Copy)]
 pub struct Drive {
     pub cylinder: u8,
     pub seek: Seek,
@@ -27,7 +27,7 @@ pub struct Drive {
 }
 
 // A track that a Format asks for: its n, how many sectors, gap and filler.
-#[derive(Drop)]
+#[derive(Clone, Copy)]
 pub struct Shape {
     pub size: u8,
     pub sectors: u8,
@@ -36,14 +36,14 @@ pub struct Shape {
 }
 
 // What is written: the data of the sector with an ID, or, for a Format, the IDs of a track of a shape.
-#[derive(Drop)]
+#[derive(Clone, Copy)]
 pub enum Goal {
     IntoSector(SectorId),
     IntoTrack(Shape),
 }
 
 // Four numbers: c, h, r, n of an ID, or size, sectors, gap, filler of a shape.
-#[derive(Drop)]
+#[derive(Clone, Copy)]
 pub struct Target {
     pub one: u8,
     pub two: u8,
@@ -52,7 +52,7 @@ pub struct Target {
 }
 
 // A write in progress: the command's second byte, what is written (of a track or not, and which), and how many bytes are held.
-#[derive(Drop)]
+#[derive(Clone, Copy)]
 pub struct Pending {
     pub on: bool,
     pub c1: u8,
@@ -63,7 +63,7 @@ pub struct Pending {
 
 // In the Rust: `cmd` is `command` and `count`; `reply` is `reply`, `place` and `fill`; `data` is the transfer buffer from `from` up to `until`;
 // `setting` is what the controller was made with, of which bit 0 is the machine. `lost_read` is `lost`; `read_id_idx` is `index`; `data_in` is `write`; `int_seek_completed` is the drive's `seek`.
-#[derive(Drop)]
+#[derive(Clone, Copy)]
 pub struct Regs {
     pub command: [u8; 9],
     pub count: u8,
@@ -81,48 +81,48 @@ pub struct Regs {
 }
 
 // A byte, or why there is none.
-#[derive(Drop)]
+#[derive(Clone, Copy)]
 pub enum Byte {
     Of(u8),
     Refused(Refusal),
 }
 
 // A flag, or why there is none.
-#[derive(Drop)]
+#[derive(Clone, Copy)]
 pub enum Flag {
     Of(bool),
     Refused(Refusal),
 }
 
 // What a port read answers, with the registers then.
-#[derive(Drop)]
+#[derive(Clone, Copy)]
 pub struct Told {
     pub answer: Byte,
     pub regs: Regs,
 }
 
 // What the host is told beside that a byte was taken: which sector a Read, a Write Data or the end of a write has found.
-#[derive(Drop)]
+#[derive(Clone, Copy)]
 pub struct Report {
     pub sector: Match,
 }
 
 // What the host gets for a byte that it sent: it was taken, with what there is to tell, or why it was not.
-#[derive(Drop)]
+#[derive(Clone, Copy)]
 pub enum Receipt {
     Good(Report),
     Refused(Refusal),
 }
 
 // What a byte sent answers, with the registers then.
-#[derive(Drop)]
+#[derive(Clone, Copy)]
 pub struct Written {
     pub receipt: Receipt,
     pub regs: Regs,
 }
 
 // What a change of motor or disk answers, with the registers then.
-#[derive(Drop)]
+#[derive(Clone, Copy)]
 pub struct Switched {
     pub done: Done,
     pub regs: Regs,

@@ -1,4 +1,6 @@
 // How the programs that replay a list take its records and print their answers. docs/ORACLE.md has the forms.
+#![tactic(auto)]
+
 ghost use Rattle.std.specs.Prelude.{◌≡◌, ◌+◌, ◌*◌, ◌<◌, ◌≤◌, length};
 ghost use Rattle.fields.specs.Bytes.{byte_at};
 ghost use Rattle.fields.specs.Capacities.{most_data};
@@ -11,7 +13,7 @@ use libc::{STDIN_FILENO, STDOUT_FILENO};
 use tracks::Row;
 
 // How much a disk holds.
-#[derive(Drop)]
+#[derive(Clone, Copy)]
 pub struct Amount {
     pub tracks: usize,
     pub sectors: usize,
@@ -19,7 +21,7 @@ pub struct Amount {
 }
 
 // What stands next in a list: no length, a length and fewer bytes or more than there is room for, or so many bytes.
-#[derive(Drop)]
+#[derive(Clone, Copy)]
 pub enum Chunk {
     End,
     Broken,
@@ -27,7 +29,7 @@ pub enum Chunk {
 }
 
 // A record of a list: how long its name and its image are.
-#[derive(Drop)]
+#[derive(Clone, Copy)]
 pub enum Record {
     End,
     Broken,

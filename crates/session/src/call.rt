@@ -17,7 +17,7 @@ pub type Content = [u8; fields::DATA];
 pub type Transfer = [u8; fields::TRANSFER];
 
 // How many calls were good, the number from 1 of the one that was refused, 0 where there is none, and its word or that of the last byte sent.
-#[derive(Drop)]
+#[derive(Clone, Copy)]
 struct Passed {
     count: usize,
     at: usize,

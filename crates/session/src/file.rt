@@ -6,7 +6,7 @@ use crate::parse::put_at;
 const LONGEST: usize = 4088;
 
 // What came of a file, and how many bytes it has.
-#[derive(Drop)]
+#[derive(Clone, Copy)]
 pub enum Fetched {
     Unopened,
     Unread,

@@ -10,7 +10,7 @@ pub type Piece = [u8; 4096];
 pub type Line = [u8; 4097];
 
 // Which part of the piece is still to be taken, how long the line is that was taken, and whether there was none.
-#[derive(Drop)]
+#[derive(Clone, Copy)]
 pub struct Input {
     at: usize,
     end: usize,

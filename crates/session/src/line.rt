@@ -5,14 +5,14 @@ ghost use Rattle.std.specs.Prelude.{◌≤◌};
 const MOST: usize = 65536;
 
 // The number that a word names, if it names one.
-#[derive(Drop)]
+#[derive(Clone, Copy)]
 pub enum Value {
     Other,
     Number(usize),
 }
 
 // Where a word begins and ends.
-#[derive(Drop)]
+#[derive(Clone, Copy)]
 pub struct Span {
     pub from: usize,
     pub to: usize,

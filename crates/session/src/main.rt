@@ -1,4 +1,6 @@
 // Runs a script of calls on a controller and its disk, and prints what each call answers. docs/SESSION.md has the calls.
+#![tactic(auto)]
+
 mod call;
 mod file;
 mod input;

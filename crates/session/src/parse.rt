@@ -3,7 +3,7 @@ use crate::line;
 use crate::line::Value;
 
 // The first word of a line.
-#[derive(Drop)]
+#[derive(Clone, Copy)]
 pub enum Name {
     Fresh,
     Load,
@@ -24,7 +24,7 @@ pub enum Name {
 }
 
 // What is wrong with a line. Words are counted from 0.
-#[derive(Drop)]
+#[derive(Clone, Copy)]
 pub enum Fault {
     Unknown,
     Few,
@@ -33,7 +33,7 @@ pub enum Fault {
 }
 
 // A call comes with one number: how often, how many bytes it names, or what it sets.
-#[derive(Drop)]
+#[derive(Clone, Copy)]
 pub enum Parsed {
     Nothing,
     Call(Name, usize),

@@ -1,4 +1,6 @@
 // A sheet for every box: the controller, all but its disk, as bytes in the house form, and back. docs/SHEET.md describes them.
+#![tactic(auto)]
+
 mod reading;
 mod writing;
 

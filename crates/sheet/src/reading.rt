@@ -17,7 +17,7 @@ use registers::{Drive, Pending, Regs, Switched, Target, goal_of, wrong_work};
 use store::{Done, transfer_room};
 
 // Where the length of each box stands, and where the last box ends.
-#[derive(Drop)]
+#[derive(Clone, Copy)]
 pub struct Places {
     pub motor: usize,
     pub cylinder: usize,

@@ -9,7 +9,7 @@ use fields::{DATA, SECTORS, TRACKS, TRANSFER};
 // The one length of a table: a count, 204 heads and 2,048 rows.
 pub const TABLE: usize = 17609;
 
-#[derive(Drop)]
+#[derive(Clone, Copy)]
 pub enum Tallied {
     Bad,
     Good {

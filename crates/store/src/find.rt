@@ -11,7 +11,7 @@ use crate::check::{Tallied, room_of, rows_len, tally};
 use fields::{Refusal, SectorId};
 
 // Where a search ends: the index of what it found, its place in the table and that of its bytes.
-#[derive(Drop)]
+#[derive(Clone, Copy)]
 pub enum Spot {
     Nothing,
     At {
@@ -22,7 +22,7 @@ pub enum Spot {
 }
 
 // Where the search for a sector ends: which one it is, its row and the place of its bytes.
-#[derive(Drop)]
+#[derive(Clone, Copy)]
 pub enum Hit {
     Nothing,
     At {
@@ -33,14 +33,14 @@ pub enum Hit {
 }
 
 // The row that an index stands for, counted round its track.
-#[derive(Drop)]
+#[derive(Clone, Copy)]
 pub enum Turned {
     Empty,
     Row { index: usize, at: usize },
 }
 
 // Where the sector at an address stands: which one it is, its row, its bytes, and the end of the bytes of all sectors.
-#[derive(Drop)]
+#[derive(Clone, Copy)]
 pub enum Place {
     Refused(Refusal),
     Nothing,

@@ -1,5 +1,7 @@
 // A disk kept in a lent table and a lent data buffer: the layout, the check and the searches.
 // docs/STORE.md and `specs/Store.antt` say how it is laid.
+#![tactic(auto)]
+
 mod answer;
 mod check;
 mod find;

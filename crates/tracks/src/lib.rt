@@ -1,4 +1,6 @@
 // A track block of a DSK image: its header, its sector list and its data. `specs/Block.antt` says what a block holds.
+#![tactic(auto)]
+
 mod row;
 mod track;
 

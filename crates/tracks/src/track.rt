@@ -4,14 +4,14 @@ ghost use Rattle.tracks.specs.Block.{id_at, row_at, row_by, row_of, sector_of, s
 
 use fields::{Refusal, SectorId, St1, St2, Text, byte, read_string, word};
 
-#[derive(Drop)]
+#[derive(Clone, Copy)]
 pub enum Kind {
     Normal,
     Extended,
 }
 
 // A track's fields, how many sectors it has and how many bytes they store.
-#[derive(Drop)]
+#[derive(Clone, Copy)]
 pub struct Head {
     pub cylinder: u8,
     pub side: u8,
@@ -23,7 +23,7 @@ pub struct Head {
 }
 
 // A sector's fields and how many bytes it stores.
-#[derive(Drop)]
+#[derive(Clone, Copy)]
 pub struct Row {
     pub id: SectorId,
     pub st1: St1,
@@ -31,7 +31,7 @@ pub struct Row {
     pub stored: u16,
 }
 
-#[derive(Drop)]
+#[derive(Clone, Copy)]
 pub enum Block {
     Refused(Refusal),
     Head(Head),

@@ -2,6 +2,8 @@
 // store then holds and answers and which image it goes home as, in the form in which the Rust's own
 // answers stand in `stdout`.
 // docs/ORACLE.md has both forms. The store is not cleared between two images.
+#![tactic(auto)]
+
 ghost use Rattle.std.specs.Prelude.{◌+◌, ◌*◌, ◌<◌, ◌≤◌};
 
 use fields::SectorId;

@@ -1,4 +1,6 @@
 // The one word by which an exported call answers. docs/HOST.md describes it.
+#![tactic(auto)]
+
 mod word;
 
 pub use word::{
