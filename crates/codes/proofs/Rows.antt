@@ -14,9 +14,9 @@ use Rattle.codes.specs.declared.command.Command.TheVariants.{Specify, SenseDrive
 
 -- ---- the two facts
 
-one_each : one_each 256 ≡ true
+one_each_lem : one_each 256 ≡ true
 unfolding one_each passing rows mask_rows
-one_each = refl
+one_each_lem = refl
 
 pub others-are : others 256 ≡ 187
 unfolding others passing rows mask_rows
@@ -32,7 +32,7 @@ below (suc n) e c h = go (ℕ_discrete c n) (below n (and-snd (leb (passing rows
     go (no q) ih = ih (omega arith)
 
 pub no-overlap : (c : ℕ) → c < 256 → passing rows c ≤ 1
-no-overlap c h = below 256 one_each c h
+no-overlap c h = below 256 one_each_lem c h
 
 -- ---- so the row that takes a byte names its command
 

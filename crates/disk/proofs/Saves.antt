@@ -35,7 +35,7 @@ use Rattle.disk.specs.declared.saving.Plan.TheVariants as plan
 use Rattle.disk.specs.declared.answer.Saved.TheVariants as saving
 use Rattle.fields.proofs.Tests.{never}
 use Rattle.store.proofs.Checks.{kept, walkable, disk-bad, disk-good}
-use Rattle.store.proofs.Founds.{row_at_spot, sector-found, match-found, track-in, spot_in}
+use Rattle.store.proofs.Founds.{row_at_spot, sector-found, match-found, track-in, spot_in_lem}
 use Rattle.store.proofs.Rounds.{data-length}
 use Rattle.disk.proofs.Holds.{part-whole, bytes-are, is-laid}
 use Rattle.disk.proofs.Cuts.{Replaced, piece_of, behind, replaced-length, over-laid, splice-laid, change-length, First, first-row, first_part, row_only, track_part, all-rows, all-contents, all-tracks, all-data, row_first, track-first}
@@ -123,7 +123,7 @@ module _ (t b : List ℕ) (side cylinder : ℕ) (id : SectorId) (new : List ℕ)
 
     -- the row and the bytes lie inside
     old-in : (a + 8 ≤ length t) × (q + (row_at t a).stored ≤ used t)
-    old-in = let w = walkable t b e in let h = spot_in t side cylinder id i a q w f in (omega (arith, h.0, w.long), h.1)
+    old-in = let w = walkable t b e in let h = spot_in_lem t side cylinder id i a q w f in (omega (arith, h.0, w.long), h.1)
 
     old-long : length (old_at t b a q) ≡ (row_at t a).stored
     old-long = part-whole t b q (row_at t a).stored (omega (arith, old-in.1, end-in.0))

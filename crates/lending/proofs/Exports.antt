@@ -47,15 +47,15 @@ sound-fitting k s =
 
 -- ---- words
 
-byte_word : (f : ℕ → Answer) → ((n : ℕ) → word_of (f n) ≡ n) → (b : Byte) → byte_word b ≡ word_of (byte_said f b)
+byte_word_lem : (f : ℕ → Answer) → ((n : ℕ) → word_of (f n) ≡ n) → (b : Byte) → byte_word b ≡ word_of (byte_said f b)
 unfolding word_of
-byte_word f q (byte.Of n) = sym (q n)
-byte_word f q (byte.Refused why) = refl
+byte_word_lem f q (byte.Of n) = sym (q n)
+byte_word_lem f q (byte.Refused why) = refl
 
-flag_word : (a : Flag) → flag_word a ≡ word_of (flag_said a)
+flag_word_lem : (a : Flag) → flag_word a ≡ word_of (flag_said a)
 unfolding word_of
-flag_word (flag.Of f) = refl
-flag_word (flag.Refused why) = refl
+flag_word_lem (flag.Of f) = refl
+flag_word_lem (flag.Refused why) = refl
 
 done-word : (a : Done) → done_word a ≡ word_of (done_said a)
 unfolding word_of
@@ -85,7 +85,7 @@ module _ (k : Host) (s : Sound k) where
 
   shown-exports : (f : ℕ → Answer) → ((n : ℕ) → word_of (f n) ≡ n) → (a : Shown)
       → after_answered (shown_word a) (lending_of k) ≡ record { answer = word_of (after_shown f a k).answer; then = lending_of (after_shown f a k).then }
-  shown-exports f q a = λ i. record { answer = byte_word f q a.byte i; then = lending_of (with_floppy a.floppy k) }
+  shown-exports f q a = λ i. record { answer = byte_word_lem f q a.byte i; then = lending_of (with_floppy a.floppy k) }
 
   changed-exports : (a : Changed)
       → after_answered (changed_word a) (lending_of k) ≡ record { answer = word_of (after_changed a k).answer; then = lending_of (after_changed a k).then }
@@ -105,9 +105,9 @@ module _ (k : Host) (s : Sound k) where
 
   asked-exports : (q : Question) → asked_on q (floppy_bytes F) ≡ word_of (asked_in q F.regs)
   unfolding asked_on asked_in
-  asked-exports motor_on? = motor-same F fits s.held ∙ flag_word (motor_of F.regs)
-  asked-exports which_track? = track-same F fits s.held ∙ byte_word stood (λ n. unfold word_of in refl) (current_track F.regs)
-  asked-exports disk_in? = disk-same F fits s.held ∙ flag_word (disk_in F.regs)
+  asked-exports motor_on? = motor-same F fits s.held ∙ flag_word_lem (motor_of F.regs)
+  asked-exports which_track? = track-same F fits s.held ∙ byte_word_lem stood (λ n. unfold word_of in refl) (current_track F.regs)
+  asked-exports disk_in? = disk-same F fits s.held ∙ flag_word_lem (disk_in F.regs)
 
   pub exports : (e : Event) → Exports e
   unfolding exported called

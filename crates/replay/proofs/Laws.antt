@@ -34,9 +34,9 @@ abbrev pub number_read : Read → ℕ
 number_read (Refused why) = 0
 number_read (Number n) = n
 
-pub number_read : (b : List ℕ) (at : ℕ) (x y : Read) → x ≡ read_number 4 b at → x ≡ y → number_read y ≡ number_in b at
+pub number_read_lem : (b : List ℕ) (at : ℕ) (x y : Read) → x ≡ read_number 4 b at → x ≡ y → number_read y ≡ number_in b at
 unfolding read_number number_in
-number_read b at x y e q = ap number_read (sym q ∙ e) ∙ either (leb (at + 4) (length b))
+number_read_lem b at x y e q = ap number_read (sym q ∙ e) ∙ either (leb (at + 4) (length b))
   where
     either : (t : Bool) → number_read (cond t (Number (number_at 4 b at)) (Refused ShortImage)) ≡ cond t (number_at 4 b at) 0
     either true = refl

@@ -143,8 +143,8 @@ if_some : (new l : List ℕ) (f t : ℕ) (k : List ℕ) → l ≡ slice f t k �
 if_some new [] f t k e g h = let z : length (slice f t k) ≡ t - f = length-slice f t k h in absurd (omega (arith, ap length e))
 if_some new (x ∷ l) f t k e g h = refl
 
-if_none : (new : List ℕ) (f t : ℕ) (k : List ℕ) → t ≤ f → t ≤ length k → if_none new (slice f t k) ≡ new
-if_none new f t k g h = ap (if_none new) (drop_of_length-le (take t k) {i = f} (omega (arith, length-take-le t k h)))
+if_none_lem : (new : List ℕ) (f t : ℕ) (k : List ℕ) → t ≤ f → t ≤ length k → if_none new (slice f t k) ≡ new
+if_none_lem new f t k g h = ap (if_none new) (drop_of_length-le (take t k) {i = f} (omega (arith, length-take-le t k h)))
 
 seen_if : (v : Bool) (bytes : List ℕ) (r : Regs) (x : List ℕ) → r.fill ≤ 7 → length r.reply ≡ 7 → ltb r.place r.fill ≡ v
     → front_of (if_unread v bytes r) x ≡ with_reply (if_none bytes (front_of r x).reply) (front_of r x)
@@ -153,7 +153,7 @@ seen_if true bytes r x f l e =
     unfold front_of in ap (λ (y : List ℕ). with_reply y (front_of r x)) (sym (if_some bytes _ r.place r.fill r.reply refl (ltb-true _ _ e) (omega (arith, f, l))))
 seen_if false bytes r x f l e =
     seen-reply bytes r x
-    ∙ (unfold front_of in ap (λ (y : List ℕ). with_reply y (front_of r x)) (sym (if_none bytes r.place r.fill r.reply (ltb-false _ _ e) (omega (arith, f, l)))))
+    ∙ (unfold front_of in ap (λ (y : List ℕ). with_reply y (front_of r x)) (sym (if_none_lem bytes r.place r.fill r.reply (ltb-false _ _ e) (omega (arith, f, l)))))
 
 seen-serve : (bytes reply : List ℕ) (r : Regs) (x : List ℕ) → front_of (regs_responded (Serve bytes reply) r) (over x 0 bytes) ≡ responded (Serve bytes reply) (front_of r x)
 unfolding regs_responded responded front_of

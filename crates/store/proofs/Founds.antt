@@ -191,10 +191,10 @@ module _ (t : List ℕ) where
   no-track side cylinder id e = ap (λ (s : Spot). hit_of (bearing_in t id s) (spot_in t id s)) e
 
   -- the row of an address stands in the table, and its bytes among those that were counted
-  pub spot_in : (side cylinder : ℕ) (id : SectorId) (i a p : ℕ) → Walkable t → At i a p ≡ store_spot t side cylinder id
+  pub spot_in_lem : (side cylinder : ℕ) (id : SectorId) (i a p : ℕ) → Walkable t → At i a p ≡ store_spot t side cylinder id
       → (a + 8 ≤ table_length) × (p + (row_at t a).stored ≤ bytes_at t 1 (byte_at t 0))
   unfolding store_spot
-  spot_in side cylinder id i a p w e = told (track_spot t side cylinder 0 1 0 (byte_at t 0)) refl (sym e)
+  spot_in_lem side cylinder id i a p w e = told (track_spot t side cylinder 0 1 0 (byte_at t 0)) refl (sym e)
     where
       told : (s : Spot) → track_spot t side cylinder 0 1 0 (byte_at t 0) ≡ s → spot_in t id s ≡ At i a p
           → (a + 8 ≤ table_length) × (p + (row_at t a).stored ≤ bytes_at t 1 (byte_at t 0))
@@ -274,7 +274,7 @@ module _ (t b : List ℕ) (side cylinder : ℕ) (id : SectorId) where
     pub part-inside : (i a p : ℕ) → At i a p ≡ store_spot t side cylinder id → Placed t b a p (p + (row_at t a).stored) (bytes_at t 1 (byte_at t 0))
     part-inside i a p f =
         let w = walkable t b e in
-        let h = spot_in t side cylinder id i a p w f in
+        let h = spot_in_lem t side cylinder id i a p w f in
         let l = kept t (room_of b) e in
         record { row_inside = omega (arith, h.0, w.long); bytes = refl; bytes_inside = h.1; all = refl; all-inside = l.bytes }
 

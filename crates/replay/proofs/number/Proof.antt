@@ -1,4 +1,4 @@
-use Rattle.replay.proofs.Laws.{number_read}
+use Rattle.replay.proofs.Laws.{number_read_lem}
 use borrow.Author.Rules.{rules}
 use Rattle.replay.proofs.number.Statement.{statement}
 use Rattle.replay.proofs.number.Tie as tie
@@ -16,10 +16,10 @@ cast-result : tie.Need-overflow-cast-result
 cast-result c = search rules
 
 returns : tie.Need-returns
-returns c = number_read _ _ _ _ c.before.before.read_u32.ensures c.enum_told.given.1
+returns c = number_read_lem _ _ _ _ c.before.before.read_u32.ensures c.enum_told.given.1
 
 returns-2 : tie.Need-returns-2
-returns-2 c = number_read _ _ _ _ c.before.before.before.read_u32.ensures c.before.n.given.1
+returns-2 c = number_read_lem _ _ _ _ c.before.before.before.read_u32.ensures c.before.n.given.1
 
 pub number-spec : {M : Type 1} → statement M
 number-spec =

@@ -15,11 +15,11 @@ abbrev entry : tie.After-read → tie.Start
 entry k = k.before.before.before.before.before.before.before.before.before.before
 
 -- what the read answers
-read_here : (k : tie.After-read) (a : Reading) (x' : List ℕ) → k.read.result ≡ a → let g = (entry k).args in let n = k.before.before.before.before.before in
+read_here_lem : (k : tie.After-read) (a : Reading) (x' : List ℕ) → k.read.result ≡ a → let g = (entry k).args in let n = k.before.before.before.before.before in
     filled k.read.result x'
     ≡ read_of g.table.now g.bytes.now k.before.before.head_of.result n.named.result.cylinder n.before.sector-id.result (byte g.t3 6) g.transfer.now
     → Read g.regs g.deleted g.t3 g.bytes.now g.transfer.now (read_here g.deleted g.t3 g.regs g.table.now g.bytes.now g.transfer.now) a x'
-read_here k a x' f w =
+read_here_lem k a x' f w =
     let h = k.before.before in
     let i = h.before in
     let n = i.before.before in
@@ -90,7 +90,7 @@ returns-2 : tie.Need-returns-2
 returns-2 c =
     let w = c.before.before in
     let k = w.before.before.before.before in
-    let q = read_here k _ _ w.why.given.1 k.read.ensures in
+    let q = read_here_lem k _ _ w.why.given.1 k.read.ensures in
     (c.refused.ensures ∙ q.0, q.1)
 
 same-length-2 : tie.Need-same-length-2
@@ -100,7 +100,7 @@ returns-3 : tie.Need-returns-3
 returns-3 c =
     let e = c.before.before in
     let k = e.before.before.before.before in
-    let q = read_here k _ _ e.enum_told.given.1 k.read.ensures in
+    let q = read_here_lem k _ _ e.enum_told.given.1 k.read.ensures in
     (c.done2.ensures ∙ simp c.before.missing.ensures q.0, q.1)
 
 same-length-3 : tie.Need-same-length-3
@@ -110,7 +110,7 @@ returns-4 : tie.Need-returns-4
 returns-4 c =
     let g = c.before.before.before.before in
     let k = g.before.before.before.before in
-    let q = read_here k _ _ g.got.given.1 k.read.ensures in
+    let q = read_here_lem k _ _ g.got.given.1 k.read.ensures in
     (c.found.ensures ∙ simp c.before.served.ensures q.0, q.1)
 
 pub read-data-spec : {M : Type 1} → statement M

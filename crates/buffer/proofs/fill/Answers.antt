@@ -1,0 +1,15 @@
+use mathlib.Core.Path.{refl, sym}
+use Prim.Native.Nat.{◌-◌}
+use borrow.Author.Rules.{rules}
+use Rattle.buffer.proofs.Overs.{over-nil}
+use Rattle.buffer.proofs.Loops.{fill-turn, fill_done}
+use Rattle.buffer.proofs.fill.Goals as goal
+
+pub loop-i-init : goal.loop-i-init
+loop-i-init c = (search rules, (refl, sym (over-nil _ _)))
+
+pub loop-i-preserved : goal.loop-i-preserved
+loop-i-preserved c = search (rules, fill-turn)
+
+pub returns : goal.returns
+returns c = search (rules, fill_done)
