@@ -1,22 +1,21 @@
 -- From what was met to the disk: it can be written exactly where each track fits and the table has room, and the shape is that of its image.
-use mathlib.Core.Path.{◌≡◌, refl, sym, ap, ap₂, ◌∙◌}
-use Prim.Native.Nat.{ℕ, zero, suc, ◌+◌, ◌-◌, ◌*◌, ◌≤◌, ◌<◌, max}
+use mathlib.Core.Path.{◌≡◌, refl, sym, ap, ◌∙◌}
+use Prim.Native.Nat.{ℕ, zero, suc, ◌+◌, ◌*◌, ◌≤◌, ◌<◌, max}
 use native.Mathlib.Omega.{arith}
 use mathlib.Core.List.{List, [], ◌∷◌}
-use mathlib.Core.Bool.{Bool, true, false, not, cond, ◌&&◌, ◌||◌, or-false, or_assoc}
+use mathlib.Core.Bool.{Bool, true, false, cond, ◌&&◌, ◌||◌, or-false, or_assoc}
 use lib.ListN.{length}
 use lib.Dec.{eqb, leb, ltb}
 use borrow.Author.Tests.{le-leb, leb-true, le-ltb}
 use Rattle.fields.specs.Bytes.{byte_at}
 use Rattle.fields.specs.Model.{Track, Disk, total, Each, track_bytes}
 use Rattle.fields.proofs.Tests.{never, and-fst, and-snd}
-use Rattle.store.specs.Store.{room_of, sectors_at, count_at, next_at, track_sum, tracks_at, bytes_at, well_laid}
+use Rattle.store.specs.Store.{sectors_at, count_at, next_at, track_sum, tracks_at, bytes_at}
 use Rattle.store.proofs.Rounds.{size_in}
-use Rattle.store.proofs.Checks.{kept, room_in}
 use Rattle.store.proofs.Founds.{sectors-count}
 use Rattle.disk.proofs.Holds.{sizes-are}
 use Rattle.home.specs.Home.{units, block_for, cylinders_of, some_track, sides_of, entry_for, image_for, side_over_1, sectors_over_29, track_over_65280, entries_over_204, unwritable}
-use Rattle.home.specs.Passes.{met_none, met_with, met_at, sides_if, shape_by, shape_if, disk_at}
+use Rattle.home.specs.Passes.{met_none, met_with, met_at, sides_if, shape_by, shape_if}
 use Rattle.home.specs.declared.measure.Met.{Met}
 use Rattle.home.specs.declared.measure.Shaped.TheVariants as shaped
 use Rattle.fields.specs.declared.refusal.Refusal.TheVariants.{NoImage}
