@@ -18,7 +18,6 @@ use Rattle.store.proofs.Checks.{Tallying, tally-start, tally-again, bad-length, 
 use Rattle.home.specs.Home.{units}
 use Rattle.home.specs.Passes.{met_none, met_with, met_at, measured_of, Modest, sides_if, shape_by}
 use Rattle.home.specs.declared.measure.Met.{Met}
-use Rattle.home.specs.declared.measure.Measured.{Measured}
 use Rattle.home.specs.declared.measure.Measured.TheVariants as measured
 use Rattle.home.specs.declared.measure.Shaped.TheVariants as shaped
 use Rattle.fields.specs.declared.refusal.Refusal.TheVariants.{NoImage}

@@ -1,22 +1,21 @@
 -- From what was met to the disk: it can be written exactly where each track fits and the table has room, and the shape is that of its image.
-use mathlib.Core.Path.{◌≡◌, refl, sym, ap, ap₂, ◌∙◌}
-use Prim.Native.Nat.{ℕ, zero, suc, ◌+◌, ◌-◌, ◌*◌, ◌≤◌, ◌<◌, max}
+use mathlib.Core.Path.{◌≡◌, refl, sym, ap, ◌∙◌}
+use Prim.Native.Nat.{ℕ, zero, suc, ◌+◌, ◌*◌, ◌≤◌, ◌<◌, max}
 use native.Mathlib.Omega.{arith}
 use mathlib.Core.List.{List, [], ◌∷◌}
-use mathlib.Core.Bool.{Bool, true, false, not, cond, ◌&&◌, ◌||◌, or-false, or_assoc}
+use mathlib.Core.Bool.{Bool, true, false, cond, ◌&&◌, ◌||◌, or-false, or_assoc}
 use lib.ListN.{length}
 use lib.Dec.{eqb, leb, ltb}
 use borrow.Author.Tests.{le-leb, leb-true, le-ltb}
 use Rattle.fields.specs.Bytes.{byte_at}
 use Rattle.fields.specs.Model.{Track, Disk, total, Each, track_bytes}
 use Rattle.fields.proofs.Tests.{never, and-fst, and-snd}
-use Rattle.store.specs.Store.{room_of, sectors_at, count_at, next_at, track_sum, tracks_at, bytes_at, well_laid}
+use Rattle.store.specs.Store.{sectors_at, count_at, next_at, track_sum, tracks_at, bytes_at}
 use Rattle.store.proofs.Rounds.{size_in}
-use Rattle.store.proofs.Checks.{kept, room_in}
 use Rattle.store.proofs.Founds.{sectors-count}
 use Rattle.disk.proofs.Holds.{sizes-are}
 use Rattle.home.specs.Home.{units, block_for, cylinders_of, some_track, sides_of, entry_for, image_for, side_over_1, sectors_over_29, track_over_65280, entries_over_204, unwritable}
-use Rattle.home.specs.Passes.{met_none, met_with, met_at, sides_if, shape_by, shape_if, disk_at}
+use Rattle.home.specs.Passes.{met_none, met_with, met_at, sides_if, shape_by, shape_if}
 use Rattle.home.specs.declared.measure.Met.{Met}
 use Rattle.home.specs.declared.measure.Shaped.TheVariants as shaped
 use Rattle.fields.specs.declared.refusal.Refusal.TheVariants.{NoImage}
@@ -37,7 +36,9 @@ met-disk t b m at place (suc k) h =
     let n : length (sectors_at t b (at + 6) place (count_at t at)) ≡ count_at t at = sectors-count t b (at + 6) place (count_at t at) in
     let s : size_in (sectors_at t b (at + 6) place (count_at t at)) ≡ track_sum t at = sizes-are t b (at + 6) place (count_at t at) (omega arith) in
     (λ i. met_at t (met_with m (byte_at t at) (byte_at t (at + 1)) (sym n i) (sym s i)) (next_at t at) k)
-    ∙ met-disk t b _ (next_at t at) (place + track_sum t at) k (omega arith)
+    ∙ met-disk t b
+    (met_with m (byte_at t at) (byte_at t (at + 1)) (length (sectors_at t b (at + 6) place (count_at t at))) (size_in (sectors_at t b (at + 6) place (count_at t at))))
+    (next_at t at) (place + track_sum t at) k (omega arith)
 
 -- ---- cylinders, sides and length
 
@@ -49,7 +50,7 @@ met-cylinders m (t ∷ ts) = omega (arith, met-cylinders (met_with m t.cylinder 
 met-second : (m : Met) (d : Disk) → (met_of m d).second ≡ (m.second || some_track (λ t. eqb t.side 1) d)
 unfolding met_of met_with some_track
 met-second m [] = sym (or-false m.second)
-met-second m (t ∷ ts) = met-second _ ts ∙ or_assoc m.second (eqb t.side 1) (some_track (λ t. eqb t.side 1) ts)
+met-second m (t ∷ ts) = met-second (met_with m t.cylinder t.side (length t.sectors) (track_bytes t)) ts ∙ or_assoc m.second (eqb t.side 1) (some_track (λ t. eqb t.side 1) ts)
 
 met-length : (m : Met) (d : Disk) → (met_of m d).long ≡ m.long + total (λ t. 256 + 256 * units (track_bytes t)) d
 unfolding met_of met_with total
@@ -82,7 +83,8 @@ fits-met : (m : Met) (d : Disk) → m.fits ≡ true → Each Fit d → Ordered 2
 unfolding met_of met_with Each Ordered
 fits-met m [] h f o = h
 fits-met m (t ∷ ts) h f o =
-    fits-met _ ts (simp (h, le-leb _ _ o.0, le-leb _ _ f.0.side, le-leb _ _ f.0.sectors, le-leb _ _ f.0.block)) f.1 o.1
+    fits-met (met_with m t.cylinder t.side (length t.sectors) (track_bytes t)) ts
+    (simp (h, le-leb _ _ o.0, le-leb _ _ f.0.side, le-leb _ _ f.0.sectors, le-leb _ _ f.0.block)) f.1 o.1
 
 -- ---- a disk whose tracks fit and rise, and one that can be written
 

@@ -12,7 +12,7 @@ bounds-block-48 c = let l = block-long _ c.requires.0 in omega arith
 pub bounds-block-49 : goal.bounds-block-49
 bounds-block-49 c =
     let l = block-long _ c.requires.0 in
-    lt-length-set c.copy_in.new.0 48 _ (omega arith)
+    lt-length-set c.copy_in.new.dst 48 _ (omega arith)
 
 pub returns : goal.returns
 returns c = info-laid _ _ _ _ c.requires.0 c.copy_in.ensures
