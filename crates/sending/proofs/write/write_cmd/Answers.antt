@@ -1,0 +1,31 @@
+use mathlib.Core.Path.{sym, ◌∙◌}
+use Rattle.registers.proofs.Numbers.{possible, possible-in, count-few, taken-few}
+use Rattle.sending.proofs.Sends.{wrong-length, wrong-numbers, write-wrong, left-data, left-command}
+use Rattle.registers.specs.Boxes.{setting_of}
+use Rattle.sending.proofs.write.write_cmd.Goals as goal
+
+pub returns-then-held-ne-HELD : goal.returns-then-held-ne-HELD
+returns-then-held-ne-HELD c =
+    write-wrong c.args.regs c.args.b c.args.held.now c.args.table.now c.args.bytes.now c.args.transfer.now _
+    (wrong-length c.args.regs c.args.held.now c.args.transfer.now c.if-held-ne-HELD.true) c.refused.ensures
+
+pub returns-then-impossible_in : goal.returns-then-impossible_in
+returns-then-impossible_in c =
+    write-wrong c.args.regs c.args.b c.args.held.now c.args.table.now c.args.bytes.now c.args.transfer.now _
+    (wrong-numbers c.args.regs c.args.held.now c.args.transfer.now (sym c.impossible_in.ensures ∙ c.if-impossible_in.true)) c.refused-then-impossible_in.ensures
+
+pub data_byte-requires : goal.data_byte-requires
+data_byte-requires c = (c.if-held-ne-HELD.false, taken-few (setting_of c.args.regs.setting) c.args.regs.write (possible c.args.regs (possible-in c.args.transfer.now c.args.regs (sym c.impossible_in.ensures ∙ c.if-impossible_in.false))).write-in c.if-regs.true)
+
+pub returns-then-regs : goal.returns-then-regs
+returns-then-regs c =
+    left-data c.args.regs c.args.b c.args.held.now c.args.table.now c.args.bytes.now c.args.transfer.now _
+    (sym c.impossible_in.ensures ∙ c.if-impossible_in.false) c.if-held-ne-HELD.false c.if-regs.true (c.data_byte.ensures c.args.transfer.now)
+
+pub maybe_run_cmd-requires : goal.maybe_run_cmd-requires
+maybe_run_cmd-requires c = count-few c.args.regs (possible-in c.args.transfer.now c.args.regs (sym c.impossible_in.ensures ∙ c.if-impossible_in.false))
+
+pub returns : goal.returns
+returns c =
+    left-command c.args.regs c.args.b c.args.held.now c.args.table.now c.args.bytes.now c.args.transfer.now _
+    (sym c.impossible_in.ensures ∙ c.if-impossible_in.false) c.if-held-ne-HELD.false c.if-regs.false (c.maybe_run_cmd.ensures c.args.held.now)
