@@ -1,3 +1,1 @@
-pub mod Lends
-pub mod Lent
 pub mod Seen
