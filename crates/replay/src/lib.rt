@@ -1,7 +1,8 @@
 // How the programs that replay a list take its records and print their answers. docs/ORACLE.md has the forms.
 #![tactic(auto)]
 
-ghost use Rattle.std.specs.Prelude.{◌≡◌, ◌+◌, ◌*◌, ◌<◌, ◌≤◌, length, IfOk};
+ghost use Rattle.std.specs.Prelude.{◌≡◌, ◌+◌, ◌*◌, ◌<◌, ◌≤◌, length, drop, IfOk, OnOk};
+ghost use Rattle.std.specs.Io.KnownBytes.{Appends};
 ghost use Rattle.fields.specs.Bytes.{byte_at};
 ghost use Rattle.fields.specs.Capacities.{most_data};
 ghost use Rattle.store.specs.Spots.{tally_of};
@@ -37,7 +38,9 @@ pub enum Record {
     Whole { letters: usize, len: usize },
 }
 
-pub fn put<W: Write>(out: &mut W, text: &[u8]) -> io::Result<()> {
+pub fn put<W: Write>(out: &mut W, text: &[u8]) -> io::Result<()>
+    ensures { OnOk result (Appends (W.contents out.old) (W.contents out.new) text.now) }
+{
     out.write_all(text)
 }
 
@@ -208,7 +211,8 @@ pub fn number(bytes: &[u8], at: usize) -> usize
 
 // Reads n bytes to the front of a buffer; no where the input ends first.
 pub fn take<R: Read>(input: &mut R, buf: &mut [u8], n: usize) -> io::Result<bool>
-    ensures { IfOk result (λ taken. Fits taken n (length buf.old)) }
+    ensures fits { IfOk result (λ taken. Fits taken n (length buf.old)) }
+    ensures rest { drop n buf.new ≡ drop n buf.old }
 {
     if buf.len() < n {
         return Ok(false);
@@ -222,7 +226,8 @@ pub fn take<R: Read>(input: &mut R, buf: &mut [u8], n: usize) -> io::Result<bool
 
 // Takes a chunk to the front of a buffer: its length in so many bytes, the lowest first, and that many bytes.
 pub fn take_chunk<R: Read>(input: &mut R, width: usize, buf: &mut [u8]) -> io::Result<Chunk>
-    ensures { IfOk result (λ chunk. ChunkFits chunk (length buf.old)) }
+    ensures fits { IfOk result (λ chunk. ChunkFits chunk (length buf.old)) }
+    ensures room { length buf.new ≡ length buf.old }
 {
     let mut small = [0u8; 4];
     let four: &mut [u8] = &mut small;
@@ -237,12 +242,9 @@ pub fn take_chunk<R: Read>(input: &mut R, width: usize, buf: &mut [u8]) -> io::R
 }
 
 // Takes a record that begins with a name and an image, and leaves both in their buffers.
-pub fn take_record<R: Read>(
-    input: &mut R,
-    name: &mut [u8],
-    image: &mut [u8],
-) -> io::Result<Record>
-    ensures { IfOk result (λ record. RecordFits record (length name.old) (length image.old)) }
+pub fn take_record<R: Read>(input: &mut R, name: &mut [u8], image: &mut [u8]) -> io::Result<Record>
+    ensures fits { IfOk result (λ r. RecordFits r (length name.old) (length image.old)) }
+    ensures room { (length name.new ≡ length name.old) × (length image.new ≡ length image.old) }
 {
     match take_chunk(input, 1, name)? {
         Chunk::End => Ok(Record::End),
