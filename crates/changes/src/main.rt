@@ -6,7 +6,8 @@
 ghost use Rattle.std.specs.Prelude.{◌+◌, ◌*◌, ◌<◌, ◌≤◌};
 
 use fields::SectorId;
-use libc::STDERR_FILENO;
+use std::io;
+use std::io::{BufReader, BufWriter, Read, Write};
 
 // More scripts than any list has.
 const SCRIPTS: u32 = 65536;
@@ -15,12 +16,13 @@ const SCRIPTS: u32 = 65536;
 const MOST_PRINTED: usize = 600;
 
 // The fields of an operation, as they came.
-fn show_fields(fields: &[u8], count: usize) {
+fn show_fields<W: Write>(out: &mut W, fields: &[u8], count: usize) -> io::Result<()> {
     let mut k: usize = 0;
     while k < count {
-        replay::field(replay::byte(fields, k));
+        replay::field(out, replay::byte(fields, k))?;
         k += 1;
     }
+    Ok(())
 }
 
 fn field_at(fields: &[u8], at: usize) -> u8 {
@@ -37,26 +39,31 @@ fn id_of(fields: &[u8]) -> SectorId {
     }
 }
 
-fn refused(why: fields::Refusal) {
-    replay::put(b" ");
-    replay::refused(why);
+fn refused<W: Write>(out: &mut W, why: fields::Refusal) -> io::Result<()> {
+    replay::put(out, b" ")?;
+    replay::refused(out, why)
 }
 
 // A call that changed the disk, and the disk.
-fn done(table: &[u8], bytes: &[u8]) {
-    replay::put(b" done\n");
+fn done<W: Write>(out: &mut W, table: &[u8], bytes: &[u8]) -> io::Result<()> {
+    replay::put(out, b" done\n")?;
     let held = replay::measure(table);
     if MOST_PRINTED < held.sectors {
-        replay::show_totals(held.tracks, held.sectors, held.bytes);
+        replay::show_totals(out, held.tracks, held.sectors, held.bytes)
     } else {
-        replay::show_tracks(table, bytes);
+        replay::show_tracks(out, table, bytes)
     }
 }
 
 // Side, cylinder, n, number of sectors, gap, filler.
-fn format(fields: &[u8], table: &mut [u8], bytes: &mut [u8]) {
-    replay::put(b"format");
-    show_fields(fields, 6);
+fn format<W: Write>(
+    out: &mut W,
+    fields: &[u8],
+    table: &mut [u8],
+    bytes: &mut [u8],
+) -> io::Result<()> {
+    replay::put(out, b"format")?;
+    show_fields(out, fields, 6)?;
     let track = formatting::Format {
         cylinder: field_at(fields, 1),
         side: field_at(fields, 0),
@@ -69,8 +76,8 @@ fn format(fields: &[u8], table: &mut [u8], bytes: &mut [u8]) {
     let ids: &mut [u8] = &mut space;
     tracks::number_ids(ids, track.cylinder, track.side, track.size, track.sectors);
     match formatting::set_track(table, bytes, track, ids) {
-        store::Done::Refused(why) => refused(why),
-        store::Done::Good => done(table, bytes),
+        store::Done::Refused(why) => refused(out, why),
+        store::Done::Good => done(out, table, bytes),
     }
 }
 
@@ -87,12 +94,18 @@ fn fill_pattern(new: &mut [u8], seed: usize)
 }
 
 // Side, cylinder, ID, length, seed.
-fn save(fields: &[u8], table: &mut [u8], bytes: &mut [u8], new: &mut [u8]) {
+fn save<W: Write>(
+    out: &mut W,
+    fields: &[u8],
+    table: &mut [u8],
+    bytes: &mut [u8],
+    new: &mut [u8],
+) -> io::Result<()> {
     let len = fields::word(fields, 6);
-    replay::put(b"save");
-    show_fields(fields, 6);
-    replay::field(len as u64);
-    replay::field(replay::byte(fields, 8));
+    replay::put(out, b"save")?;
+    show_fields(out, fields, 6)?;
+    replay::field(out, len as u64)?;
+    replay::field(out, replay::byte(fields, 8))?;
     fill_pattern(new, fields::byte(fields, 8));
     let side = field_at(fields, 0);
     let cylinder = field_at(fields, 1);
@@ -104,53 +117,75 @@ fn save(fields: &[u8], table: &mut [u8], bytes: &mut [u8], new: &mut [u8]) {
         id_of(fields),
         buffer::part(new, 0, len),
     ) {
-        disk::Saved::Refused(why) => refused(why),
-        disk::Saved::Missing => replay::put(b" missing\n"),
-        disk::Saved::Good(_) => done(table, bytes),
+        disk::Saved::Refused(why) => refused(out, why),
+        disk::Saved::Missing => replay::put(out, b" missing\n"),
+        disk::Saved::Good(_) => done(out, table, bytes),
     }
 }
 
-fn show_served(served: disk::Served, transfer: &[u8]) {
+fn show_served<W: Write>(
+    out: &mut W,
+    served: disk::Served,
+    transfer: &[u8],
+) -> io::Result<()> {
     let total = served.total;
     let st2 = served.st2;
-    replay::field(total as u64);
-    replay::field(served.end_st1() as u64);
-    replay::field(st2.bits as u64);
-    replay::field(replay::check_of(buffer::part(transfer, 0, total)) as u64);
-    replay::put(b"\n");
+    replay::field(out, total as u64)?;
+    replay::field(out, served.end_st1() as u64)?;
+    replay::field(out, st2.bits as u64)?;
+    let check = replay::check_of(buffer::part(transfer, 0, total));
+    replay::field(out, check as u64)?;
+    replay::put(out, b"\n")
 }
 
 // Reads into so much of the transfer buffer.
-fn read_into(fields: &[u8], table: &[u8], bytes: &[u8], transfer: &mut [u8]) {
+fn read_into<W: Write>(
+    out: &mut W,
+    fields: &[u8],
+    table: &[u8],
+    bytes: &[u8],
+    transfer: &mut [u8],
+) -> io::Result<()> {
     let side = field_at(fields, 0);
     let cylinder = field_at(fields, 1);
     let eot = field_at(fields, 6);
     match disk::read(table, bytes, side, cylinder, id_of(fields), eot, transfer) {
-        disk::Reading::Refused(why) => refused(why),
-        disk::Reading::Missing => replay::put(b" missing\n"),
-        disk::Reading::Good(served) => show_served(served, transfer),
+        disk::Reading::Refused(why) => refused(out, why),
+        disk::Reading::Missing => replay::put(out, b" missing\n"),
+        disk::Reading::Good(served) => show_served(out, served, transfer),
     }
 }
 
 // Side, cylinder, ID, eot, length of the transfer buffer, which is no longer than the one at hand.
-fn read(fields: &[u8], table: &[u8], bytes: &[u8], transfer: &mut [u8]) {
+fn read<W: Write>(
+    out: &mut W,
+    fields: &[u8],
+    table: &[u8],
+    bytes: &[u8],
+    transfer: &mut [u8],
+) -> io::Result<()> {
     let room = replay::number(fields, 7);
-    replay::put(b"read");
-    show_fields(fields, 7);
-    replay::field(room as u64);
+    replay::put(out, b"read")?;
+    show_fields(out, fields, 7)?;
+    replay::field(out, room as u64)?;
     if room < transfer.len() {
-        read_into(fields, table, bytes, &mut transfer[..room]);
+        read_into(out, fields, table, bytes, &mut transfer[..room])
     } else {
-        read_into(fields, table, bytes, transfer);
+        read_into(out, fields, table, bytes, transfer)
     }
 }
 
 // Side, cylinder, index.
-fn ask_id(fields: &[u8], table: &[u8], bytes: &[u8]) {
+fn ask_id<W: Write>(
+    out: &mut W,
+    fields: &[u8],
+    table: &[u8],
+    bytes: &[u8],
+) -> io::Result<()> {
     let idx = fields::word(fields, 2);
-    replay::put(b"id");
-    show_fields(fields, 2);
-    replay::field(idx as u64);
+    replay::put(out, b"id")?;
+    show_fields(out, fields, 2)?;
+    replay::field(out, idx as u64)?;
     match store::id_by_idx(
         table,
         bytes,
@@ -158,18 +193,18 @@ fn ask_id(fields: &[u8], table: &[u8], bytes: &[u8]) {
         field_at(fields, 1),
         idx as u16,
     ) {
-        store::IdFound::Refused(why) => refused(why),
-        store::IdFound::Missing => replay::put(b" none\n"),
+        store::IdFound::Refused(why) => refused(out, why),
+        store::IdFound::Missing => replay::put(out, b" none\n"),
         store::IdFound::Of(id) => {
-            replay::show_id(id);
-            replay::put(b"\n");
+            replay::show_id(out, id)?;
+            replay::put(out, b"\n")
         }
     }
 }
 
-fn broken() -> bool {
-    io::write_all(STDERR_FILENO, b"changes: the list ends inside a script\n");
-    false
+fn broken(rt: &impl Eprint) -> io::Result<bool> {
+    eprintln!(rt; "changes: the list ends inside a script")?;
+    Ok(false)
 }
 
 // How many bytes of fields an operation of a kind has; 0 for a kind that there is not.
@@ -190,53 +225,74 @@ fn fields_of(kind: u8) -> usize {
 }
 
 // Runs the operation of a kind.
-fn perform(kind: u8, fields: &[u8], table: &mut [u8], bytes: &mut [u8], work: &mut [u8]) {
+fn perform<W: Write>(
+    out: &mut W,
+    kind: u8,
+    fields: &[u8],
+    table: &mut [u8],
+    bytes: &mut [u8],
+    work: &mut [u8],
+) -> io::Result<()> {
     if kind == 1 {
-        return format(fields, table, bytes);
+        return format(out, fields, table, bytes);
     }
     if kind == 2 {
-        return save(fields, table, bytes, work);
+        return save(out, fields, table, bytes, work);
     }
     if kind == 3 {
-        return read(fields, table, bytes, work);
+        return read(out, fields, table, bytes, work);
     }
-    ask_id(fields, table, bytes);
+    ask_id(out, fields, table, bytes)
 }
 
 // Runs one operation; no where the list ends inside it.
-fn operate(table: &mut [u8], bytes: &mut [u8], work: &mut [u8]) -> bool {
+fn operate<R: Read, W: Write>(
+    rt: &impl Eprint,
+    input: &mut R,
+    out: &mut W,
+    table: &mut [u8],
+    bytes: &mut [u8],
+    work: &mut [u8],
+) -> io::Result<bool> {
     let mut few = [0u8; 11];
     let fields: &mut [u8] = &mut few;
-    if !replay::take(fields, 1) {
-        return broken();
+    if !replay::take(input, fields, 1)? {
+        return broken(rt);
     }
     let kind = field_at(fields, 0);
     let count = fields_of(kind);
     if count == 0 {
-        return broken();
+        return broken(rt);
     }
-    if !replay::take(fields, count) {
-        return broken();
+    if !replay::take(input, fields, count)? {
+        return broken(rt);
     }
-    perform(kind, fields, table, bytes, work);
-    true
+    perform(out, kind, fields, table, bytes, work)?;
+    Ok(true)
 }
 
 // Runs the operations of a script; no where the list ends inside one.
-fn operations(table: &mut [u8], bytes: &mut [u8], work: &mut [u8]) -> bool {
+fn operations<R: Read, W: Write>(
+    rt: &impl Eprint,
+    input: &mut R,
+    out: &mut W,
+    table: &mut [u8],
+    bytes: &mut [u8],
+    work: &mut [u8],
+) -> io::Result<bool> {
     let mut small = [0u8; 2];
     let two: &mut [u8] = &mut small;
-    if !replay::take(two, 2) {
-        return broken();
+    if !replay::take(input, two, 2)? {
+        return broken(rt);
     }
     let mut left = fields::word(two, 0);
     while 0 < left {
-        if !operate(table, bytes, work) {
-            return false;
+        if !operate(rt, input, out, table, bytes, work)? {
+            return Ok(false);
         }
         left -= 1;
     }
-    true
+    Ok(true)
 }
 
 // The disk that a script begins with: a fresh one where it has no image.
@@ -248,37 +304,46 @@ fn start(image: &[u8], table: &mut [u8], bytes: &mut [u8]) -> store::Done {
 }
 
 // Runs a script of this name on this disk; no where the list ends inside it.
-fn run_script(
+fn run_script<R: Read, W: Write>(
+    rt: &impl Eprint,
+    input: &mut R,
+    out: &mut W,
     name: &[u8],
     image: &[u8],
     table: &mut [u8],
     bytes: &mut [u8],
     work: &mut [u8],
-) -> bool {
-    replay::put(b"script ");
-    replay::put(name);
-    replay::put(b"\n");
+) -> io::Result<bool> {
+    replay::put(out, b"script ")?;
+    replay::put(out, name)?;
+    replay::put(out, b"\n")?;
     match start(image, table, bytes) {
         store::Done::Refused(why) => {
-            replay::refused(why);
-            false
+            replay::refused(out, why)?;
+            Ok(false)
         }
-        store::Done::Good => operations(table, bytes, work),
+        store::Done::Good => operations(rt, input, out, table, bytes, work),
     }
 }
 
 // Reads one script and runs it; no where the list ends.
-fn replay(
+fn replay<R: Read, W: Write>(
+    rt: &impl Eprint,
+    input: &mut R,
+    out: &mut W,
     name: &mut [u8],
     image: &mut [u8],
     table: &mut [u8],
     bytes: &mut [u8],
     work: &mut [u8],
-) -> bool {
-    match replay::take_record(name, image) {
-        replay::Record::End => false,
-        replay::Record::Broken => broken(),
+) -> io::Result<bool> {
+    match replay::take_record(input, name, image)? {
+        replay::Record::End => Ok(false),
+        replay::Record::Broken => broken(rt),
         replay::Record::Whole { letters, len } => run_script(
+            rt,
+            input,
+            out,
             buffer::part(name, 0, letters),
             buffer::part(image, 0, len),
             table,
@@ -289,27 +354,36 @@ fn replay(
 }
 
 // Replays every script.
-fn run(
+fn run<R: Read, W: Write>(
+    rt: &impl Eprint,
+    input: &mut R,
+    out: &mut W,
     name: &mut [u8; 256],
     image: &mut [u8; 65536],
     table: &mut [u8; store::TABLE],
     bytes: &mut [u8; fields::DATA],
     work: &mut [u8; 131072],
-) {
+) -> io::Result<()> {
     let mut left = SCRIPTS;
     while 0 < left {
-        if !replay(name, image, table, bytes, work) {
-            return;
+        if !replay(rt, input, out, name, image, table, bytes, work)? {
+            return Ok(());
         }
         left -= 1;
     }
+    Ok(())
 }
 
-fn main() {
+fn main(rt: HostRuntime) -> io::Result<()> {
+    let mut input = BufReader::new(rt.alloc(), rt.stdin())?;
+    let mut out = BufWriter::new(rt.alloc(), rt.stdout())?;
     let mut name = [0; 256];
     let mut image = [0; 65536];
     let mut table = [0; store::TABLE];
     let mut bytes = [0; fields::DATA];
     let mut work = [0; 131072];
-    run(&mut name, &mut image, &mut table, &mut bytes, &mut work);
+    run(
+        &rt, &mut input, &mut out, &mut name, &mut image, &mut table, &mut bytes, &mut work,
+    )?;
+    out.flush()
 }

@@ -5,6 +5,8 @@ use crate::show::Heard;
 use crate::{sheets, show};
 use floppy::{After, Changed, Floppy, Shown};
 use registers::{Byte, Receipt, Regs};
+use std::io;
+use std::io::Write;
 use store::Done;
 
 // The tables of both disks, and their data: A's, and behind them B's.
@@ -81,21 +83,21 @@ fn done_of(receipt: Receipt) -> Done {
 }
 
 // The bench after a change of motor or disk.
-fn changed(bench: Bench, a: Changed) -> Bench {
+fn changed<W: Write>(out: &mut W, bench: Bench, a: Changed) -> io::Result<Bench> {
     let done = a.done;
-    show::end(done);
+    show::end(out, done)?;
     let after = a.floppy;
-    with(bench, after)
+    Ok(with(bench, after))
 }
 
 // Puts disk A or B in, or takes out what is in.
-fn put(mut bench: Bench, which: usize) -> Bench {
+fn put<W: Write>(out: &mut W, mut bench: Bench, which: usize) -> io::Result<Bench> {
     if which == 0 {
-        replay::put(b"put none");
+        replay::put(out, b"put none")?;
     } else if which == 1 {
-        replay::put(b"put a");
+        replay::put(out, b"put a")?;
     } else {
-        replay::put(b"put b");
+        replay::put(out, b"put b")?;
     }
     let f = bench.floppy;
     let a = f.set_disk(0 < which);
@@ -104,17 +106,17 @@ fn put(mut bench: Bench, which: usize) -> Bench {
         Done::Refused(_) => {}
         Done::Good => bench.disk = which,
     }
-    changed(bench, a)
+    changed(out, bench, a)
 }
 
-fn motor(bench: Bench, on: bool) -> Bench {
+fn motor<W: Write>(out: &mut W, bench: Bench, on: bool) -> io::Result<Bench> {
     if on {
-        replay::put(b"motor on");
+        replay::put(out, b"motor on")?;
     } else {
-        replay::put(b"motor off");
+        replay::put(out, b"motor off")?;
     }
     let f = bench.floppy;
-    changed(bench, f.set_motor(on))
+    changed(out, bench, f.set_motor(on))
 }
 
 // A read of the data port or of the status, over a lent controller or by value.
@@ -190,14 +192,20 @@ fn reads(floppy: Floppy, dataport: bool, times: usize, lent: bool, transfer: &[u
 }
 
 // Reads a port, and shows what that gave.
-fn read(bench: Bench, dataport: bool, times: usize, transfer: &[u8]) -> Bench {
+fn read<W: Write>(
+    out: &mut W,
+    bench: Bench,
+    dataport: bool,
+    times: usize,
+    transfer: &[u8],
+) -> io::Result<Bench> {
     let room = buffer::part(transfer, 0, bench.transfer);
     let a = reads(bench.floppy, dataport, times, bench.lent, room);
     let done = a.done;
-    show::gave(a.heard);
-    show::end(done);
+    show::gave(out, a.heard)?;
+    show::end(out, done)?;
     let after = a.floppy;
-    with(bench, after)
+    Ok(with(bench, after))
 }
 
 // Sends bytes, up to one that is refused.
@@ -301,56 +309,64 @@ fn send_lent(
     )
 }
 
-fn send(
+fn send<W: Write>(
+    out: &mut W,
     bench: Bench,
     times: usize,
     text: &[u8],
     tables: &mut Tables,
     contents: &mut Contents,
     transfer: &mut Transfer,
-) -> Bench {
-    show::number(b"send", times);
-    replay::field(text.len() as u64);
-    show::bytes(text);
+) -> io::Result<Bench> {
+    show::number(out, b"send", times)?;
+    replay::field(out, text.len() as u64)?;
+    show::bytes(out, text)?;
     let s = send_lent(bench, text, times, tables, contents, transfer);
     let done = s.done;
     match done {
         Done::Refused(_) => {
-            show::number(b" after", s.rounds);
-            replay::field(s.taken as u64);
+            show::number(out, b" after", s.rounds)?;
+            replay::field(out, s.taken as u64)?;
         }
         Done::Good => {}
     }
-    show::end(done);
+    show::end(out, done)?;
     let after = s.floppy;
-    with(bench, after)
+    Ok(with(bench, after))
 }
 
 // A call that changes what a test finds, with its number and its value.
-fn told(word: &[u8], n: usize, value: usize) {
-    show::number(word, n);
-    replay::field(value as u64);
-    replay::put(b"\n");
+fn told<W: Write>(out: &mut W, word: &[u8], n: usize, value: usize) -> io::Result<()> {
+    show::number(out, word, n)?;
+    replay::field(out, value as u64)?;
+    replay::put(out, b"\n")
 }
 
 // So much of a buffer is lent from now on: 1 the table, 2 the data, 3 the transfer buffer.
-fn lend(mut bench: Bench, which: usize, len: usize) -> Bench {
-    told(b"lend", which, len);
+fn lend<W: Write>(out: &mut W, mut bench: Bench, which: usize, len: usize) -> io::Result<Bench> {
+    told(out, b"lend", which, len)?;
     match which {
         1 => bench.table = len,
         2 => bench.data = len,
         _ => bench.transfer = len,
     }
-    bench
+    Ok(bench)
 }
 
 // A byte of the table of the disk in the drive is changed.
-fn set_table(disk: usize, at: usize, b: u8, tables: &mut Tables) {
-    told(b"table", at, b as usize);
+fn set_table<W: Write>(
+    out: &mut W,
+    disk: usize,
+    at: usize,
+    b: u8,
+    tables: &mut Tables,
+) -> io::Result<()> {
+    told(out, b"table", at, b as usize)?;
     let start = start_of(disk, store::TABLE);
     if at < store::TABLE {
         tables[start + at] = b;
     }
+    Ok(())
 }
 
 // The registers with another number: 1 and 2 place and fill of the reply, 3 the bytes of a command, 4 the lost count,
@@ -374,72 +390,90 @@ fn renumbered(mut r: Regs, which: usize, value: usize) -> Regs {
 }
 
 // A number of the controller is changed.
-fn set_number(bench: Bench, which: usize, value: usize) -> Bench {
-    told(b"number", which, value);
+fn set_number<W: Write>(
+    out: &mut W,
+    bench: Bench,
+    which: usize,
+    value: usize,
+) -> io::Result<Bench> {
+    told(out, b"number", which, value)?;
     let f = bench.floppy;
     let held = f.held;
     let regs = renumbered(f.regs, which, value);
-    with(bench, Floppy { regs, held })
+    Ok(with(bench, Floppy { regs, held }))
 }
 
 // The controller is written out as a sheet and read back, and the disk that was in is put in again.
-fn pause(bench: Bench, transfer: &mut Transfer) -> Bench {
-    replay::put(b"sheet");
-    let a = sheets::rewrite(bench.floppy, bench.transfer, transfer);
+fn pause<W: Write>(out: &mut W, bench: Bench, transfer: &mut Transfer) -> io::Result<Bench> {
+    replay::put(out, b"sheet")?;
+    let a = sheets::rewrite(out, bench.floppy, bench.transfer, transfer)?;
     let done = a.done;
     match done {
-        Done::Refused(_) => changed(bench, a),
+        Done::Refused(_) => changed(out, bench, a),
         Done::Good => {
             let f = a.floppy;
-            changed(bench, f.set_disk(0 < bench.disk))
+            changed(out, bench, f.set_disk(0 < bench.disk))
         }
     }
 }
 
 // Bytes are read as a sheet, whose controller has no disk.
-fn resume(mut bench: Bench, text: &[u8], transfer: &mut Transfer) -> Bench {
-    show::number(b"resume", text.len());
-    show::bytes(text);
+fn resume<W: Write>(
+    out: &mut W,
+    mut bench: Bench,
+    text: &[u8],
+    transfer: &mut Transfer,
+) -> io::Result<Bench> {
+    show::number(out, b"resume", text.len())?;
+    show::bytes(out, text)?;
     let a = sheets::take_up(bench.floppy, text, bench.transfer, transfer);
     let done = a.done;
     match done {
         Done::Refused(_) => {}
         Done::Good => {
-            replay::put(b" done");
+            replay::put(out, b" done")?;
             bench.disk = 0;
         }
     }
-    changed(bench, a)
+    changed(out, bench, a)
 }
 
 // A call that is lent no store.
-fn at_ports(bench: Bench, kind: usize, number: usize, text: &[u8], transfer: &[u8]) -> Bench {
+fn at_ports<W: Write>(
+    out: &mut W,
+    bench: Bench,
+    kind: usize,
+    number: usize,
+    text: &[u8],
+    transfer: &[u8],
+) -> io::Result<Bench> {
     match kind {
-        1 => put(bench, number),
-        2 => motor(bench, number == 1),
+        1 => put(out, bench, number),
+        2 => motor(out, bench, number == 1),
         3 => {
-            show::number(b"status", number);
-            read(bench, false, number, transfer)
+            show::number(out, b"status", number)?;
+            read(out, bench, false, number, transfer)
         }
         4 => {
-            show::number(b"read", number);
-            read(bench, true, number, transfer)
+            show::number(out, b"read", number)?;
+            read(out, bench, true, number, transfer)
         }
         6 => {
-            show::ask(bench.floppy);
-            bench
+            show::ask(out, bench.floppy)?;
+            Ok(bench)
         }
         7 => {
-            show::boxes(bench.floppy, transfer);
-            bench
+            show::boxes(out, bench.floppy, transfer)?;
+            Ok(bench)
         }
-        8 => lend(bench, number, replay::number(text, 0)),
-        _ => set_number(bench, number, replay::number(text, 0)),
+        8 => lend(out, bench, number, replay::number(text, 0)),
+        _ => set_number(out, bench, number, replay::number(text, 0)),
     }
 }
 
 // Makes a call of this kind.
-pub(crate) fn make(
+pub(crate) fn make<W: Write>(
+    out: &mut W,
     bench: Bench,
     kind: usize,
     number: usize,
@@ -447,19 +481,19 @@ pub(crate) fn make(
     tables: &mut Tables,
     contents: &mut Contents,
     transfer: &mut Transfer,
-) -> Bench {
+) -> io::Result<Bench> {
     if kind == 5 {
-        return send(bench, number, text, tables, contents, transfer);
+        return send(out, bench, number, text, tables, contents, transfer);
     }
     if kind == 9 {
-        set_table(bench.disk, number, fields::byte(text, 0) as u8, tables);
-        return bench;
+        set_table(out, bench.disk, number, fields::byte(text, 0) as u8, tables)?;
+        return Ok(bench);
     }
     if kind == 11 {
-        return pause(bench, transfer);
+        return pause(out, bench, transfer);
     }
     if kind == 12 {
-        return resume(bench, text, transfer);
+        return resume(out, bench, text, transfer);
     }
-    at_ports(bench, kind, number, text, transfer)
+    at_ports(out, bench, kind, number, text, transfer)
 }

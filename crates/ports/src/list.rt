@@ -2,6 +2,8 @@
 ghost use Rattle.std.specs.Prelude.{◌≤◌, length};
 
 use replay::Chunk;
+use std::io;
+use std::io::Read;
 
 // A session: its name, the images of its two disks and its calls, each from a place of its own.
 pub type List = [u8; 196864];
@@ -31,32 +33,38 @@ pub enum Next {
 }
 
 // Takes a chunk to its place.
-fn take_part(list: &mut [u8], width: usize, from: usize, to: usize) -> Chunk
+fn take_part<R: Read>(
+    input: &mut R,
+    list: &mut [u8],
+    width: usize,
+    from: usize,
+    to: usize,
+) -> io::Result<Chunk>
     requires { (from ≤ to) × (to ≤ length list.old) }
 {
-    replay::take_chunk(width, &mut list[from..to])
+    replay::take_chunk(input, width, &mut list[from..to])
 }
 
 // Takes what follows a session's name.
-fn take_rest(list: &mut List, name: usize) -> Next {
-    let Chunk::Whole(a) = take_part(list, 4, IMAGE_A, IMAGE_B) else {
-        return Next::Broken;
+fn take_rest<R: Read>(input: &mut R, list: &mut List, name: usize) -> io::Result<Next> {
+    let Chunk::Whole(a) = take_part(input, list, 4, IMAGE_A, IMAGE_B)? else {
+        return Ok(Next::Broken);
     };
-    let Chunk::Whole(b) = take_part(list, 4, IMAGE_B, CALLS) else {
-        return Next::Broken;
+    let Chunk::Whole(b) = take_part(input, list, 4, IMAGE_B, CALLS)? else {
+        return Ok(Next::Broken);
     };
-    let Chunk::Whole(calls) = take_part(list, 4, CALLS, END) else {
-        return Next::Broken;
+    let Chunk::Whole(calls) = take_part(input, list, 4, CALLS, END)? else {
+        return Ok(Next::Broken);
     };
-    Next::Of(Session { name, a, b, calls })
+    Ok(Next::Of(Session { name, a, b, calls }))
 }
 
 // Takes the next session.
-pub(crate) fn take_session(list: &mut List) -> Next {
-    match take_part(list, 1, 0, IMAGE_A) {
-        Chunk::End => Next::End,
-        Chunk::Broken => Next::Broken,
-        Chunk::Whole(name) => take_rest(list, name),
+pub(crate) fn take_session<R: Read>(input: &mut R, list: &mut List) -> io::Result<Next> {
+    match take_part(input, list, 1, 0, IMAGE_A)? {
+        Chunk::End => Ok(Next::End),
+        Chunk::Broken => Ok(Next::Broken),
+        Chunk::Whole(name) => take_rest(input, list, name),
     }
 }
 

@@ -12,8 +12,9 @@ mod show;
 ghost use Rattle.std.specs.Prelude.{◌≡◌, length};
 
 use call::{Bench, Contents, Tables, Transfer};
-use libc::STDERR_FILENO;
 use list::{List, Next, Session};
+use std::io;
+use std::io::{BufReader, BufWriter, Read, Write};
 use store::Done;
 
 // More sessions than any list has.
@@ -26,13 +27,14 @@ const LONGEST: usize = 65536;
 const WIPED: u8 = 165;
 
 // Makes the calls of a session.
-fn play(
+fn play<W: Write>(
+    out: &mut W,
     lent: bool,
     calls: &[u8],
     tables: &mut Tables,
     contents: &mut Contents,
     transfer: &mut Transfer,
-) -> Bench {
+) -> io::Result<Bench> {
     let mut bench = call::new_bench(lent);
     let stop = buffer::least(calls.len(), LONGEST);
     let mut at: usize = 0;
@@ -41,10 +43,10 @@ fn play(
         let number = fields::word(calls, at + 1);
         let len = fields::word(calls, at + 3);
         let text = buffer::part(calls, at + 5, len);
-        bench = call::make(bench, kind, number, text, tables, contents, transfer);
+        bench = call::make(out, bench, kind, number, text, tables, contents, transfer)?;
         at = at + 5 + len;
     }
-    bench
+    Ok(bench)
 }
 
 // Loads a disk: a fresh one where there is no image.
@@ -56,7 +58,13 @@ fn new_disk(image: &[u8], table: &mut [u8], bytes: &mut [u8]) -> Done {
 }
 
 // Loads disk A (1) or B (2); no where it is refused.
-fn load(disk: usize, image: &[u8], tables: &mut [u8], contents: &mut [u8]) -> bool
+fn load<W: Write>(
+    out: &mut W,
+    disk: usize,
+    image: &[u8],
+    tables: &mut [u8],
+    contents: &mut [u8],
+) -> io::Result<bool>
     requires { (length tables.old ≡ 35218) × (length contents.old ≡ 2097152) }
 {
     let from = call::start_of(disk, store::TABLE);
@@ -65,64 +73,72 @@ fn load(disk: usize, image: &[u8], tables: &mut [u8], contents: &mut [u8]) -> bo
     let stop = start + fields::DATA;
     match new_disk(image, &mut tables[from..to], &mut contents[start..stop]) {
         Done::Refused(why) => {
-            replay::refused(why);
-            false
+            replay::refused(out, why)?;
+            Ok(false)
         }
-        Done::Good => true,
+        Done::Good => Ok(true),
     }
 }
 
 // A disk, as it is in the end.
-fn show_disk(disk: usize, tables: &[u8], contents: &[u8]) {
+fn show_disk<W: Write>(out: &mut W, disk: usize, tables: &[u8], contents: &[u8]) -> io::Result<()> {
     let from = call::start_of(disk, store::TABLE);
     let start = call::start_of(disk, fields::DATA);
     show::disk(
+        out,
         buffer::part(tables, from, store::TABLE),
         buffer::part(contents, start, fields::DATA),
-    );
+    )
 }
 
 // What the controller and both disks hold in the end.
-fn finish(bench: Bench, transfer: &Transfer, tables: &Tables, contents: &Contents) {
+fn finish<W: Write>(
+    out: &mut W,
+    bench: Bench,
+    transfer: &Transfer,
+    tables: &Tables,
+    contents: &Contents,
+) -> io::Result<()> {
     let f = bench.floppy;
-    show::ask(f);
-    show::boxes(f, transfer);
-    replay::put(b"disk a\n");
-    show_disk(1, tables, contents);
-    replay::put(b"disk b\n");
-    show_disk(2, tables, contents);
+    show::ask(out, f)?;
+    show::boxes(out, f, transfer)?;
+    replay::put(out, b"disk a\n")?;
+    show_disk(out, 1, tables, contents)?;
+    replay::put(out, b"disk b\n")?;
+    show_disk(out, 2, tables, contents)
 }
 
 // The line over a session's answers.
-fn headed(lent: bool, name: &[u8]) {
+fn headed<W: Write>(out: &mut W, lent: bool, name: &[u8]) -> io::Result<()> {
     if lent {
-        replay::put(b"lent ");
+        replay::put(out, b"lent ")?;
     } else {
-        replay::put(b"session ");
+        replay::put(out, b"session ")?;
     }
-    replay::put(name);
-    replay::put(b"\n");
+    replay::put(out, name)?;
+    replay::put(out, b"\n")
 }
 
 // Loads a session's two disks and makes its calls; no where a disk is refused.
-fn perform(
+fn perform<W: Write>(
+    out: &mut W,
     lent: bool,
     list: &List,
     s: Session,
     tables: &mut Tables,
     contents: &mut Contents,
     transfer: &mut Transfer,
-) -> bool {
-    headed(lent, list::name(list, s));
-    if !load(1, list::image_a(list, s), tables, contents) {
-        return false;
+) -> io::Result<bool> {
+    headed(out, lent, list::name(list, s))?;
+    if !load(out, 1, list::image_a(list, s), tables, contents)? {
+        return Ok(false);
     }
-    if !load(2, list::image_b(list, s), tables, contents) {
-        return false;
+    if !load(out, 2, list::image_b(list, s), tables, contents)? {
+        return Ok(false);
     }
-    let bench = play(lent, list::calls(list, s), tables, contents, transfer);
-    finish(bench, transfer, tables, contents);
-    true
+    let bench = play(out, lent, list::calls(list, s), tables, contents, transfer)?;
+    finish(out, bench, transfer, tables, contents)?;
+    Ok(true)
 }
 
 // Overwrites all that a buffer holds.
@@ -132,56 +148,80 @@ fn wipe(bytes: &mut [u8]) {
 }
 
 // Replays a session by value, and on wiped buffers over a lent controller; no where a disk is refused.
-fn twice(
+fn twice<W: Write>(
+    out: &mut W,
     list: &List,
     s: Session,
     tables: &mut Tables,
     contents: &mut Contents,
     transfer: &mut Transfer,
-) -> bool {
-    if !perform(false, list, s, tables, contents, transfer) {
-        return false;
+) -> io::Result<bool> {
+    if !perform(out, false, list, s, tables, contents, transfer)? {
+        return Ok(false);
     }
     wipe(tables);
     wipe(contents);
     wipe(transfer);
-    perform(true, list, s, tables, contents, transfer)
+    perform(out, true, list, s, tables, contents, transfer)
 }
 
-fn broken() -> bool {
-    io::write_all(STDERR_FILENO, b"ports: the list ends inside a session\n");
-    false
+fn broken(rt: &impl Eprint) -> io::Result<bool> {
+    eprintln!(rt; "ports: the list ends inside a session")?;
+    Ok(false)
 }
 
 // Takes one session and replays it; no where the list ends.
-fn replay(
+fn replay<R: Read, W: Write>(
+    rt: &impl Eprint,
+    input: &mut R,
+    out: &mut W,
     list: &mut List,
     tables: &mut Tables,
     contents: &mut Contents,
     transfer: &mut Transfer,
-) -> bool {
-    match list::take_session(list) {
-        Next::End => false,
-        Next::Broken => broken(),
-        Next::Of(s) => twice(list, s, tables, contents, transfer),
+) -> io::Result<bool> {
+    match list::take_session(input, list)? {
+        Next::End => Ok(false),
+        Next::Broken => broken(rt),
+        Next::Of(s) => twice(out, list, s, tables, contents, transfer),
     }
 }
 
 // Replays every session.
-fn run(list: &mut List, tables: &mut Tables, contents: &mut Contents, transfer: &mut Transfer) {
+fn run<R: Read, W: Write>(
+    rt: &impl Eprint,
+    input: &mut R,
+    out: &mut W,
+    list: &mut List,
+    tables: &mut Tables,
+    contents: &mut Contents,
+    transfer: &mut Transfer,
+) -> io::Result<()> {
     let mut left = SESSIONS;
     while 0 < left {
-        if !replay(list, tables, contents, transfer) {
-            return;
+        if !replay(rt, input, out, list, tables, contents, transfer)? {
+            return Ok(());
         }
         left -= 1;
     }
+    Ok(())
 }
 
-fn main() {
+fn main(rt: HostRuntime) -> io::Result<()> {
+    let mut input = BufReader::new(rt.alloc(), rt.stdin())?;
+    let mut out = BufWriter::new(rt.alloc(), rt.stdout())?;
     let mut list = [0; 196864];
     let mut tables = [0; 35218];
     let mut contents = [0; 2097152];
     let mut transfer = [0; 131072];
-    run(&mut list, &mut tables, &mut contents, &mut transfer);
+    run(
+        &rt,
+        &mut input,
+        &mut out,
+        &mut list,
+        &mut tables,
+        &mut contents,
+        &mut transfer,
+    )?;
+    out.flush()
 }

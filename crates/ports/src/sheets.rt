@@ -3,6 +3,8 @@ use crate::show;
 use fields::HELD;
 use floppy::{Changed, Floppy};
 use sheet::LONGEST;
+use std::io;
+use std::io::Write;
 use store::{Done, Extent};
 
 // What is overwritten holds nothing but this byte.
@@ -35,29 +37,34 @@ fn overwrite(bytes: &mut [u8]) {
 }
 
 // Shows a sheet, and reads it over other bytes.
-fn read_back(written: &[u8], transfer: &mut [u8]) -> Changed {
-    show::number(b"", written.len());
-    show::bytes(written);
+fn read_back<W: Write>(out: &mut W, written: &[u8], transfer: &mut [u8]) -> io::Result<Changed> {
+    show::number(out, b"", written.len())?;
+    show::bytes(out, written)?;
     overwrite(transfer);
-    sheet::read(other(), written, transfer)
+    Ok(sheet::read(other(), written, transfer))
 }
 
 // The controller, written out and read back over a transfer buffer that is lent whole.
-fn rewritten(floppy: Floppy, transfer: &mut [u8]) -> Changed {
+fn rewritten<W: Write>(out: &mut W, floppy: Floppy, transfer: &mut [u8]) -> io::Result<Changed> {
     let mut paper = [0u8; LONGEST];
     match sheet::write(floppy, transfer, &mut paper) {
-        Extent::Refused(why) => Changed {
+        Extent::Refused(why) => Ok(Changed {
             done: Done::Refused(why),
             floppy,
-        },
-        Extent::Of(n) => read_back(buffer::part(&paper, 0, n as usize), transfer),
+        }),
+        Extent::Of(n) => read_back(out, buffer::part(&paper, 0, n as usize), transfer),
     }
 }
 
 // The same over as many bytes of the transfer buffer as are lent.
-pub(crate) fn rewrite(floppy: Floppy, lent: usize, transfer: &mut [u8]) -> Changed {
+pub(crate) fn rewrite<W: Write>(
+    out: &mut W,
+    floppy: Floppy,
+    lent: usize,
+    transfer: &mut [u8],
+) -> io::Result<Changed> {
     let room = buffer::least(lent, transfer.len());
-    rewritten(floppy, &mut transfer[..room])
+    rewritten(out, floppy, &mut transfer[..room])
 }
 
 // Reads a sheet over as many bytes of the transfer buffer as are lent.

@@ -1,7 +1,8 @@
 // What calls answer, and what the controller and the disks hold, as docs/ORACLE.md has it.
 use floppy::Floppy;
-use libc::STDOUT_FILENO;
 use registers::{Byte, Flag, Regs, Seek};
+use std::io;
+use std::io::Write;
 use store::Done;
 
 // More bytes are not printed one by one.
@@ -23,72 +24,73 @@ fn distance(from: usize, to: usize) -> usize {
     if to < from { 0 } else { to - from }
 }
 
-fn hex(bytes: &[u8]) {
+fn hex<W: Write>(out: &mut W, bytes: &[u8]) -> io::Result<()> {
     let mut k: usize = 0;
     while k < bytes.len() {
-        replay::put(b" ");
-        io::print_hex(STDOUT_FILENO, replay::byte(bytes, k), 2);
+        let byte = replay::byte(bytes, k);
+        write!(out, " {byte:02x}")?;
         k += 1;
     }
+    Ok(())
 }
 
 // Bytes one by one, or their check number where they are many.
-fn hex_or_check(count: usize, check: u32, first: &[u8]) {
+fn hex_or_check<W: Write>(out: &mut W, count: usize, check: u32, first: &[u8]) -> io::Result<()> {
     if MOST_HEX < count {
-        replay::put(b" check");
-        return replay::field(check as u64);
+        replay::put(out, b" check")?;
+        return replay::field(out, check as u64);
     }
-    replay::put(b":");
-    hex(buffer::part(first, 0, count));
+    replay::put(out, b":")?;
+    hex(out, buffer::part(first, 0, count))
 }
 
-pub(crate) fn bytes(bytes: &[u8]) {
-    hex_or_check(bytes.len(), replay::check_of(bytes), bytes);
+pub(crate) fn bytes<W: Write>(out: &mut W, bytes: &[u8]) -> io::Result<()> {
+    hex_or_check(out, bytes.len(), replay::check_of(bytes), bytes)
 }
 
-pub(crate) fn gave(h: Heard) {
+pub(crate) fn gave<W: Write>(out: &mut W, h: Heard) -> io::Result<()> {
     let first = h.first;
-    hex_or_check(h.count, h.check, &first);
+    hex_or_check(out, h.count, h.check, &first)
 }
 
 // A word, and a number.
-pub(crate) fn number(word: &[u8], n: usize) {
-    replay::put(word);
-    replay::field(n as u64);
+pub(crate) fn number<W: Write>(out: &mut W, word: &[u8], n: usize) -> io::Result<()> {
+    replay::put(out, word)?;
+    replay::field(out, n as u64)
 }
 
-fn refused(why: fields::Refusal) {
-    number(b" refused", why.number() as usize);
+fn refused<W: Write>(out: &mut W, why: fields::Refusal) -> io::Result<()> {
+    number(out, b" refused", why.number() as usize)
 }
 
 // The end of a call's line.
-pub(crate) fn end(done: Done) {
+pub(crate) fn end<W: Write>(out: &mut W, done: Done) -> io::Result<()> {
     match done {
-        Done::Refused(why) => refused(why),
+        Done::Refused(why) => refused(out, why)?,
         Done::Good => {}
     }
-    replay::put(b"\n");
+    replay::put(out, b"\n")
 }
 
-fn flag(flag: Flag) {
+fn flag<W: Write>(out: &mut W, flag: Flag) -> io::Result<()> {
     match flag {
-        Flag::Refused(why) => refused(why),
-        Flag::Of(yes) => replay::field(yes as u64),
+        Flag::Refused(why) => refused(out, why),
+        Flag::Of(yes) => replay::field(out, yes as u64),
     }
 }
 
 // Motor, track, and whether a disk is in.
-pub(crate) fn ask(f: Floppy) {
-    replay::put(b"ask motor");
-    flag(f.motor());
-    replay::put(b" track");
+pub(crate) fn ask<W: Write>(out: &mut W, f: Floppy) -> io::Result<()> {
+    replay::put(out, b"ask motor")?;
+    flag(out, f.motor())?;
+    replay::put(out, b" track")?;
     match f.current_track() {
-        Byte::Refused(why) => refused(why),
-        Byte::Of(c) => replay::field(c as u64),
+        Byte::Refused(why) => refused(out, why)?,
+        Byte::Of(c) => replay::field(out, c as u64)?,
     }
-    replay::put(b" disk");
-    flag(f.disk());
-    replay::put(b"\n");
+    replay::put(out, b" disk")?;
+    flag(out, f.disk())?;
+    replay::put(out, b"\n")
 }
 
 fn seek_number(seek: Seek) -> usize {
@@ -99,74 +101,78 @@ fn seek_number(seek: Seek) -> usize {
     }
 }
 
-fn work(track: bool) {
+fn work<W: Write>(out: &mut W, track: bool) -> io::Result<()> {
     if track {
-        return replay::put(b" format");
+        return replay::put(out, b" format");
     }
-    replay::put(b" write")
+    replay::put(out, b" write")
 }
 
 // The write or the Format in progress: how many bytes it still takes, its c1 and ID or shape, and the check number of
 // those that it has.
-fn write(f: Floppy) {
+fn write<W: Write>(out: &mut W, f: Floppy) -> io::Result<()> {
     let w = f.regs.write;
     if !w.on {
-        return replay::put(b" write none\n");
+        return replay::put(out, b" write none\n");
     }
     let taken = w.taken as usize;
-    work(w.track);
+    work(out, w.track)?;
     let goal = w.goal();
-    replay::field(distance(taken, goal.whole()) as u64);
+    replay::field(out, distance(taken, goal.whole()) as u64)?;
     let t = w.target;
     let five = [w.c1, t.one, t.two, t.three, t.four];
-    hex(&five);
+    hex(out, &five)?;
     let held = f.held;
-    replay::field(replay::check_of(buffer::part(&held, 0, taken)) as u64);
-    replay::put(b"\n");
+    let check = replay::check_of(buffer::part(&held, 0, taken));
+    replay::field(out, check as u64)?;
+    replay::put(out, b"\n")
 }
 
 // What is unread of the reply, and of the data.
-fn unread(r: Regs, transfer: &[u8]) {
+fn unread<W: Write>(out: &mut W, r: Regs, transfer: &[u8]) -> io::Result<()> {
     let reply = r.reply;
     let place = r.place as usize;
     let from = r.from as usize;
-    replay::put(b" reply");
-    hex(buffer::part(&reply, place, distance(place, r.fill as usize)));
+    replay::put(out, b" reply")?;
+    let answers = buffer::part(&reply, place, distance(place, r.fill as usize));
+    hex(out, answers)?;
     let left = buffer::part(transfer, from, distance(from, r.until as usize));
-    number(b" data", left.len());
-    replay::field(replay::check_of(left) as u64);
+    number(out, b" data", left.len())?;
+    replay::field(out, replay::check_of(left) as u64)
 }
 
 // Seek state, lost count and ID index, and the bytes of a command that is partly sent.
-fn numbers(r: Regs) {
+fn numbers<W: Write>(out: &mut W, r: Regs) -> io::Result<()> {
     let d = r.drive;
     let seek = d.seek;
     let command = r.command;
-    number(b"boxes seek", seek_number(seek));
-    number(b" lost", r.lost as usize);
-    number(b" index", r.index as usize);
-    replay::put(b" command");
-    hex(buffer::part(&command, 0, r.count as usize));
+    number(out, b"boxes seek", seek_number(seek))?;
+    number(out, b" lost", r.lost as usize)?;
+    number(out, b" index", r.index as usize)?;
+    replay::put(out, b" command")?;
+    hex(out, buffer::part(&command, 0, r.count as usize))
 }
 
 // What the ports do not show at once.
-pub(crate) fn boxes(f: Floppy, transfer: &[u8]) {
+pub(crate) fn boxes<W: Write>(out: &mut W, f: Floppy, transfer: &[u8]) -> io::Result<()> {
     let r = f.regs;
-    numbers(r);
-    unread(r, transfer);
-    write(f);
+    numbers(out, r)?;
+    unread(out, r, transfer)?;
+    write(out, f)
 }
 
 // A disk, whole or where that is long its totals and two check numbers: of its rows, and of all data.
-pub(crate) fn disk(table: &[u8], bytes: &[u8]) {
+pub(crate) fn disk<W: Write>(out: &mut W, table: &[u8], bytes: &[u8]) -> io::Result<()> {
     let held = replay::measure(table);
     if held.tracks <= MOST_PRINTED && held.sectors <= MOST_PRINTED {
-        return replay::show_tracks(table, bytes);
+        return replay::show_tracks(out, table, bytes);
     }
-    replay::show_totals(held.tracks, held.sectors, held.bytes);
+    replay::show_totals(out, held.tracks, held.sectors, held.bytes)?;
     let rows = 1 + 6 * (held.tracks % 65536) + 8 * (held.sectors % 65536);
-    replay::put(b"check");
-    replay::field(replay::check_of(buffer::part(table, 0, rows)) as u64);
-    replay::field(replay::check_of(buffer::part(bytes, 0, held.bytes)) as u64);
-    replay::put(b"\n");
+    replay::put(out, b"check")?;
+    let of_rows = replay::check_of(buffer::part(table, 0, rows));
+    replay::field(out, of_rows as u64)?;
+    let of_data = replay::check_of(buffer::part(bytes, 0, held.bytes));
+    replay::field(out, of_data as u64)?;
+    replay::put(out, b"\n")
 }

@@ -1,7 +1,8 @@
 // How the programs that replay a list take its records and print their answers. docs/ORACLE.md has the forms.
 #![tactic(auto)]
 
-ghost use Rattle.std.specs.Prelude.{◌≡◌, ◌+◌, ◌*◌, ◌<◌, ◌≤◌, length};
+ghost use Rattle.std.specs.Prelude.{◌≡◌, ◌+◌, ◌*◌, ◌<◌, ◌≤◌, length, drop, IfOk, OnOk};
+ghost use Rattle.std.specs.Io.KnownBytes.{Appends};
 ghost use Rattle.fields.specs.Bytes.{byte_at};
 ghost use Rattle.fields.specs.Capacities.{most_data};
 ghost use Rattle.store.specs.Spots.{tally_of};
@@ -9,7 +10,8 @@ ghost use Rattle.store.specs.Store.{table_length};
 ghost use Rattle.replay.specs.Answers.{check_from, check_with, held_in, number_in, Fits, ChunkFits, RecordFits};
 
 use fields::SectorId;
-use libc::{STDIN_FILENO, STDOUT_FILENO};
+use std::io;
+use std::io::{ErrorKind, Read, Write};
 use tracks::Row;
 
 // How much a disk holds.
@@ -36,19 +38,20 @@ pub enum Record {
     Whole { letters: usize, len: usize },
 }
 
-pub fn put(text: &[u8]) {
-    io::write_all(STDOUT_FILENO, text);
+pub fn put<W: Write>(out: &mut W, text: &[u8]) -> io::Result<()>
+    ensures { OnOk result (Appends (W.contents out.old) (W.contents out.new) text.now) }
+{
+    out.write_all(text)
 }
 
-pub fn field(n: u64) {
-    put(b" ");
-    io::print_decimal(STDOUT_FILENO, n);
+pub fn field<W: Write>(out: &mut W, n: u64) -> io::Result<()> {
+    write!(out, " {n}")
 }
 
-pub fn refused(why: fields::Refusal) {
-    put(b"refused");
-    field(why.number() as u64);
-    put(b"\n");
+pub fn refused<W: Write>(out: &mut W, why: fields::Refusal) -> io::Result<()> {
+    put(out, b"refused")?;
+    field(out, why.number() as u64)?;
+    put(out, b"\n")
 }
 
 // The check number of bytes and of one more.
@@ -72,27 +75,27 @@ pub fn check_of(bytes: &[u8]) -> u32
     h
 }
 
-pub fn show_content(content: &[u8]) {
-    field(content.len() as u64);
-    field(check_of(content) as u64);
-    put(b"\n");
+pub fn show_content<W: Write>(out: &mut W, content: &[u8]) -> io::Result<()> {
+    field(out, content.len() as u64)?;
+    field(out, check_of(content) as u64)?;
+    put(out, b"\n")
 }
 
-pub fn show_id(id: SectorId) {
-    field(id.c as u64);
-    field(id.h as u64);
-    field(id.r as u64);
-    field(id.n as u64);
+pub fn show_id<W: Write>(out: &mut W, id: SectorId) -> io::Result<()> {
+    field(out, id.c as u64)?;
+    field(out, id.h as u64)?;
+    field(out, id.r as u64)?;
+    field(out, id.n as u64)
 }
 
-fn show_sector(row: Row, content: &[u8]) {
+fn show_sector<W: Write>(out: &mut W, row: Row, content: &[u8]) -> io::Result<()> {
     let st1 = row.st1;
     let st2 = row.st2;
-    put(b"sector");
-    show_id(row.id);
-    field(st1.bits as u64);
-    field(st2.bits as u64);
-    show_content(content);
+    put(out, b"sector")?;
+    show_id(out, row.id)?;
+    field(out, st1.bits as u64)?;
+    field(out, st2.bits as u64)?;
+    show_content(out, content)
 }
 
 // The byte at a place of the table, 0 past the end.
@@ -103,51 +106,59 @@ pub fn byte(table: &[u8], at: usize) -> u64
 }
 
 // The track at a place of the table.
-fn show_track(table: &[u8], at: usize)
+fn show_track<W: Write>(out: &mut W, table: &[u8], at: usize) -> io::Result<()>
     requires { at < table_length }
 {
-    put(b"track");
-    field(byte(table, at));
-    field(byte(table, at + 1));
-    field(byte(table, at + 2));
-    field(byte(table, at + 3));
-    field(byte(table, at + 4));
-    field(byte(table, at + 5));
-    put(b"\n");
+    put(out, b"track")?;
+    field(out, byte(table, at))?;
+    field(out, byte(table, at + 1))?;
+    field(out, byte(table, at + 2))?;
+    field(out, byte(table, at + 3))?;
+    field(out, byte(table, at + 4))?;
+    field(out, byte(table, at + 5))?;
+    put(out, b"\n")
 }
 
 // The sectors of `count` rows, whose bytes start at a place; answers where they end.
-fn show_sectors(table: &[u8], bytes: &[u8], start: usize, count: usize, first: usize) -> usize
+fn show_sectors<W: Write>(
+    out: &mut W,
+    table: &[u8],
+    bytes: &[u8],
+    start: usize,
+    count: usize,
+    first: usize,
+) -> io::Result<usize>
     requires { (start < 20000) × ((count < 256) × (first < 4294967296)) }
-    ensures { result ≤ first + 65535 * count }
+    ensures { IfOk result (λ end. end ≤ first + 65535 * count) }
 {
     let mut place = first;
     let mut k: usize = 0;
     while k < count {
         let row = tracks::row_at(table, start + 8 * k);
         let stored = row.stored as usize;
-        show_sector(row, buffer::part(bytes, place, stored));
+        show_sector(out, row, buffer::part(bytes, place, stored))?;
         place += stored;
         k += 1;
     }
-    place
+    Ok(place)
 }
 
 // The disk, by the layout of docs/STORE.md.
-pub fn show_tracks(table: &[u8], bytes: &[u8]) {
+pub fn show_tracks<W: Write>(out: &mut W, table: &[u8], bytes: &[u8]) -> io::Result<()> {
     let mut left = fields::byte(table, 0);
     let mut at: usize = 1;
     let mut place: usize = 0;
     while 0 < left {
         if store::TABLE <= at {
-            return;
+            return Ok(());
         }
         let count = fields::byte(table, at + 5);
-        show_track(table, at);
-        place = show_sectors(table, bytes, at + 6, count, place);
+        show_track(out, table, at)?;
+        place = show_sectors(out, table, bytes, at + 6, count, place)?;
         at += 6 + 8 * count;
         left -= 1;
     }
+    Ok(())
 }
 
 // How much the disk of a table holds; nothing where the table breaks the layout.
@@ -173,14 +184,19 @@ pub fn measure(table: &[u8]) -> Amount
     }
 }
 
-pub fn show_totals(tracks: usize, sectors: usize, bytes: usize) {
-    put(b"disk tracks");
-    field(tracks as u64);
-    put(b" sectors");
-    field(sectors as u64);
-    put(b" bytes");
-    field(bytes as u64);
-    put(b"\n");
+pub fn show_totals<W: Write>(
+    out: &mut W,
+    tracks: usize,
+    sectors: usize,
+    bytes: usize,
+) -> io::Result<()> {
+    put(out, b"disk tracks")?;
+    field(out, tracks as u64)?;
+    put(out, b" sectors")?;
+    field(out, sectors as u64)?;
+    put(out, b" bytes")?;
+    field(out, bytes as u64)?;
+    put(out, b"\n")
 }
 
 // The number in the four bytes at a place, 0 where they are not all there.
@@ -194,43 +210,50 @@ pub fn number(bytes: &[u8], at: usize) -> usize
 }
 
 // Reads n bytes to the front of a buffer; no where the input ends first.
-pub fn take(buf: &mut [u8], n: usize) -> bool
-    ensures { Fits result n (length buf.old) }
+pub fn take<R: Read>(input: &mut R, buf: &mut [u8], n: usize) -> io::Result<bool>
+    ensures fits { IfOk result (λ taken. Fits taken n (length buf.old)) }
+    ensures rest { drop n buf.new ≡ drop n buf.old }
 {
     if buf.len() < n {
-        return false;
+        return Ok(false);
     }
-    io::read_full(STDIN_FILENO, &mut buf[..n]) == n
+    match input.read_exact(&mut buf[..n]) {
+        Ok(()) => Ok(true),
+        Err(e) if e.kind() == ErrorKind::UnexpectedEof => Ok(false),
+        Err(e) => Err(e),
+    }
 }
 
 // Takes a chunk to the front of a buffer: its length in so many bytes, the lowest first, and that many bytes.
-pub fn take_chunk(width: usize, buf: &mut [u8]) -> Chunk
-    ensures { ChunkFits result (length buf.old) }
+pub fn take_chunk<R: Read>(input: &mut R, width: usize, buf: &mut [u8]) -> io::Result<Chunk>
+    ensures fits { IfOk result (λ chunk. ChunkFits chunk (length buf.old)) }
+    ensures room { length buf.new ≡ length buf.old }
 {
     let mut small = [0u8; 4];
     let four: &mut [u8] = &mut small;
-    if !take(four, width) {
-        return Chunk::End;
+    if !take(input, four, width)? {
+        return Ok(Chunk::End);
     }
     let count = number(four, 0);
-    if !take(buf, count) {
-        return Chunk::Broken;
+    if !take(input, buf, count)? {
+        return Ok(Chunk::Broken);
     }
-    Chunk::Whole(count)
+    Ok(Chunk::Whole(count))
 }
 
 // Takes a record that begins with a name and an image, and leaves both in their buffers.
-pub fn take_record(name: &mut [u8], image: &mut [u8]) -> Record
-    ensures { RecordFits result (length name.old) (length image.old) }
+pub fn take_record<R: Read>(input: &mut R, name: &mut [u8], image: &mut [u8]) -> io::Result<Record>
+    ensures fits { IfOk result (λ r. RecordFits r (length name.old) (length image.old)) }
+    ensures room { (length name.new ≡ length name.old) × (length image.new ≡ length image.old) }
 {
-    match take_chunk(1, name) {
-        Chunk::End => Record::End,
-        Chunk::Broken => Record::Broken,
+    match take_chunk(input, 1, name)? {
+        Chunk::End => Ok(Record::End),
+        Chunk::Broken => Ok(Record::Broken),
         Chunk::Whole(letters) => {
-            let Chunk::Whole(len) = take_chunk(4, image) else {
-                return Record::Broken;
+            let Chunk::Whole(len) = take_chunk(input, 4, image)? else {
+                return Ok(Record::Broken);
             };
-            Record::Whole { letters, len }
+            Ok(Record::Whole { letters, len })
         }
     }
 }
