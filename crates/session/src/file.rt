@@ -38,7 +38,7 @@ fn open_read<R: Files>(rt: &R, path: &[u8]) -> io::Result<R::File> {
     fs::open(rt, name_of(path)?)
 }
 
-// Makes a file that no other name is given to, and that its owner alone may read.
+// Makes a file under a name that no file has; its owner alone may read it.
 fn create_new<R: Files>(rt: &R, path: &[u8]) -> io::Result<R::File> {
     OpenOptions::new()
         .write(true)
@@ -73,7 +73,7 @@ fn read_full(file: &mut impl Read, room: &mut [u8]) -> io::Result<usize>
 }
 
 // Takes a file's bytes; the one that is asked for behind them tells a long file and a failed read from the end.
-fn take_from(file: &mut impl Read, room: &mut [u8]) -> io::Result<Fetched> {
+fn take(file: &mut impl Read, room: &mut [u8]) -> io::Result<Fetched> {
     let count = read_full(file, room)?;
     let mut one = [0u8; 1];
     let more = file.read(&mut one)?;
@@ -83,19 +83,12 @@ fn take_from(file: &mut impl Read, room: &mut [u8]) -> io::Result<Fetched> {
     Ok(Fetched::Whole(count))
 }
 
-fn take(file: &mut impl Read, room: &mut [u8]) -> Fetched {
-    match take_from(file, room) {
-        Ok(fetched) => fetched,
-        Err(_) => Fetched::Unread,
-    }
-}
-
 // Takes the bytes of a file that has no more than the room.
 pub(crate) fn fetch<R: Files>(rt: &R, path: &[u8], room: &mut [u8]) -> Fetched {
-    match open_read(rt, path) {
-        Ok(mut file) => take(&mut file, room),
-        Err(_) => Fetched::Unopened,
-    }
+    let Ok(mut file) = open_read(rt, path) else {
+        return Fetched::Unopened;
+    };
+    take(&mut file, room).unwrap_or(Fetched::Unread)
 }
 
 // The same with so much of the room, or all.
