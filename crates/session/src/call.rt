@@ -6,6 +6,8 @@ use crate::message::at_word;
 use crate::parse::{Spare, put_at};
 use crate::print::{ROW, answer, field, named, refusal, refused_at, rows, text};
 use crate::{file, show};
+use std::io;
+use std::rt::Files;
 
 // What the host lends to its calls.
 pub type Controller = [u8; layout::LENGTH];
@@ -27,32 +29,39 @@ struct Passed {
 // ---- the disk in the drive
 
 // Puts a disk in, unless it was refused.
-fn insert(loaded: u64, controller: &mut Controller) {
+fn insert(rt: &impl Print, loaded: u64, controller: &mut Controller) -> io::Result<()> {
     if refusal(loaded) != 0 {
-        return answer(loaded);
+        return answer(rt, loaded);
     }
-    answer(host::floppy_set_disk(controller, 1));
+    answer(rt, host::floppy_set_disk(controller, 1))
 }
 
-pub(crate) fn fresh(controller: &mut Controller, table: &mut Table, content: &mut Content) {
-    insert(host::disk_new_formatted(table, content), controller);
+pub(crate) fn fresh(
+    rt: &impl Print,
+    controller: &mut Controller,
+    table: &mut Table,
+    content: &mut Content,
+) -> io::Result<()> {
+    insert(rt, host::disk_new_formatted(table, content), controller)
 }
 
-pub(crate) fn load(
+pub(crate) fn load<R: Print + Files>(
+    rt: &R,
     number: u64,
     path: &[u8],
     controller: &mut Controller,
     table: &mut Table,
     content: &mut Content,
     spare: &mut Spare,
-) {
-    let fetched = file::fetch(path, spare);
+) -> io::Result<()> {
+    let fetched = file::fetch(rt, path, spare);
     match fetched {
         Fetched::Whole(count) => {
             let loaded = host::disk_new(buffer::part(spare, 0, count), table, content);
-            insert(loaded, controller);
+            insert(rt, loaded, controller)
         }
         _ => file::unfetched(
+            rt,
             number,
             path,
             fetched,
@@ -62,19 +71,23 @@ pub(crate) fn load(
 }
 
 // Takes the disk out.
-pub(crate) fn remove(controller: &mut Controller) {
-    answer(host::floppy_set_disk(controller, 0));
+pub(crate) fn remove(rt: &impl Print, controller: &mut Controller) -> io::Result<()> {
+    answer(rt, host::floppy_set_disk(controller, 0))
 }
 
 // ---- the controller
 
 // Makes a new controller, with no disk in its drive.
-pub(crate) fn machine(setting: usize, controller: &mut Controller) {
-    answer(host::floppy_new_with(controller, (setting % 256) as u8));
+pub(crate) fn machine(
+    rt: &impl Print,
+    setting: usize,
+    controller: &mut Controller,
+) -> io::Result<()> {
+    answer(rt, host::floppy_new_with(controller, (setting % 256) as u8))
 }
 
-pub(crate) fn motor(on: usize, controller: &mut Controller) {
-    answer(host::floppy_set_motor(controller, (on % 256) as u8));
+pub(crate) fn motor(rt: &impl Print, on: usize, controller: &mut Controller) -> io::Result<()> {
+    answer(rt, host::floppy_set_motor(controller, (on % 256) as u8))
 }
 
 // No call was refused.
@@ -133,35 +146,42 @@ fn sends(
 }
 
 // The refusal that ended a call, with its place where the call was of several bytes.
-fn refused(passed: Passed, times: usize) {
+fn refused(rt: &impl Print, passed: Passed, times: usize) -> io::Result<()> {
     if times == 1 {
-        return answer(passed.word);
+        return answer(rt, passed.word);
     }
-    refused_at(passed.word, passed.at);
+    refused_at(rt, passed.word, passed.at)
 }
 
-pub(crate) fn status(times: usize, controller: &mut Controller, spare: &mut Spare) {
+pub(crate) fn status(
+    rt: &impl Print,
+    times: usize,
+    controller: &mut Controller,
+    spare: &mut Spare,
+) -> io::Result<()> {
     let passed = reads(false, times, controller, b"", spare);
     if 0 < passed.count {
-        text(b"status");
+        text(rt, b"status")?;
         if 1 < passed.count {
-            field(passed.count as u64);
-            text(b" times:");
+            field(rt, passed.count as u64)?;
+            text(rt, b" times:")?;
         }
-        rows(buffer::part(spare, 0, passed.count));
+        rows(rt, buffer::part(spare, 0, passed.count))?;
     }
     if 0 < passed.at {
-        refused(passed, times);
+        refused(rt, passed, times)?;
     }
+    Ok(())
 }
 
 pub(crate) fn read(
+    rt: &impl Print,
     times: usize,
     lent: usize,
     controller: &mut Controller,
     transfer: &Transfer,
     spare: &mut Spare,
-) {
+) -> io::Result<()> {
     let passed = reads(
         true,
         times,
@@ -170,17 +190,18 @@ pub(crate) fn read(
         spare,
     );
     if 0 < passed.count {
-        text(b"read");
+        text(rt, b"read")?;
         if ROW < passed.count {
-            field(passed.count as u64);
-            text(b" bytes");
+            field(rt, passed.count as u64)?;
+            text(rt, b" bytes")?;
         }
-        text(b":");
-        rows(buffer::part(spare, 0, passed.count));
+        text(rt, b":")?;
+        rows(rt, buffer::part(spare, 0, passed.count))?;
     }
     if 0 < passed.at {
-        refused(passed, times);
+        refused(rt, passed, times)?;
     }
+    Ok(())
 }
 
 // Sends bytes over as much of the transfer buffer as is lent.
@@ -197,6 +218,7 @@ fn send(
 }
 
 pub(crate) fn write(
+    rt: &impl Print,
     count: usize,
     lent: usize,
     controller: &mut Controller,
@@ -204,70 +226,82 @@ pub(crate) fn write(
     content: &mut Content,
     transfer: &mut Transfer,
     spare: &Spare,
-) {
+) -> io::Result<()> {
     let sent = buffer::part(spare, 0, count);
     let passed = send(sent, lent, controller, table, content, transfer);
     if 0 < passed.at {
-        return refused(passed, count);
+        return refused(rt, passed, count);
     }
-    answer(passed.word);
+    answer(rt, passed.word)
 }
 
 // ---- files that are written
 
 // Whether what a call wrote is kept in a file now; where it was refused or the file cannot be written, says so.
-fn kept(number: u64, path: &[u8], written: u64, bytes: &[u8]) -> bool {
+fn kept<R: Print + Files>(
+    rt: &R,
+    number: u64,
+    path: &[u8],
+    written: u64,
+    bytes: &[u8],
+) -> io::Result<bool> {
     if refusal(written) != 0 {
-        answer(written);
-        return false;
+        answer(rt, written)?;
+        return Ok(false);
     }
     if file::replace(
+        rt,
         path,
         buffer::part(bytes, 0, (written / 4294967296) as usize),
     ) {
-        return true;
+        return Ok(true);
     }
     at_word(
+        rt,
         number,
         path,
         b" cannot be written; expected: a file in a folder that may be written\n",
-    );
-    false
+    )?;
+    Ok(false)
 }
 
 // Writes the disk that is in as an extended image.
-pub(crate) fn home(
+pub(crate) fn home<R: Print + Files>(
+    rt: &R,
     number: u64,
     path: &[u8],
     controller: &Controller,
     table: &Table,
     content: &Content,
     spare: &mut Spare,
-) {
-    if lacks_disk(controller) {
-        return;
+) -> io::Result<()> {
+    if lacks_disk(rt, controller)? {
+        return Ok(());
     }
     let written = host::disk_write_image(table, content, spare);
-    if kept(number, path, written, spare) {
-        text(b"home");
-        field(written / 4294967296);
-        text(b" bytes\n");
+    if kept(rt, number, path, written, spare)? {
+        text(rt, b"home")?;
+        field(rt, written / 4294967296)?;
+        text(rt, b" bytes\n")?;
     }
+    Ok(())
 }
 
-pub(crate) fn pause(
+pub(crate) fn pause<R: Print + Files>(
+    rt: &R,
     number: u64,
     path: &[u8],
     lent: usize,
     controller: &Controller,
     transfer: &Transfer,
     spare: &mut Spare,
-) {
+) -> io::Result<()> {
     let room = buffer::part(transfer, 0, lent);
     let written = host::floppy_write_sheet(controller, room, spare);
-    if kept(number, path, written, spare) {
-        answer(0);
+    if kept(rt, number, path, written, spare)? {
+        answer(rt, 0)?;
     }
+    Ok(())
 }
 
 // Reads a sheet over as much of the transfer buffer as is lent.
@@ -277,30 +311,37 @@ fn read_sheet(sheet: &[u8], lent: usize, controller: &mut Controller, transfer: 
 }
 
 // A sheet says nothing of the drive: what was in it stays there.
-fn put_back(read: u64, present: u64, controller: &mut Controller) {
+fn put_back(
+    rt: &impl Print,
+    read: u64,
+    present: u64,
+    controller: &mut Controller,
+) -> io::Result<()> {
     if refusal(read) != 0 {
-        return answer(read);
+        return answer(rt, read);
     }
-    answer(host::floppy_set_disk(controller, (present % 256) as u8));
+    answer(rt, host::floppy_set_disk(controller, (present % 256) as u8))
 }
 
-pub(crate) fn resume(
+pub(crate) fn resume<R: Print + Files>(
+    rt: &R,
     number: u64,
     path: &[u8],
     lent: usize,
     controller: &mut Controller,
     transfer: &mut Transfer,
     spare: &mut Spare,
-) {
-    let fetched = file::fetch_most(path, host::floppy_sheet_length() as usize, spare);
+) -> io::Result<()> {
+    let fetched = file::fetch_most(rt, path, host::floppy_sheet_length() as usize, spare);
     match fetched {
         Fetched::Whole(count) => {
             let sheet = buffer::part(spare, 0, count);
             let present = host::floppy_disk(controller);
             let read = read_sheet(sheet, lent, controller, transfer);
-            put_back(read, present, controller);
+            put_back(rt, read, present, controller)
         }
         _ => file::unfetched(
+            rt,
             number,
             path,
             fetched,
@@ -312,42 +353,53 @@ pub(crate) fn resume(
 // ---- what the disk holds
 
 // Whether no disk is in, which it then says.
-fn lacks_disk(controller: &Controller) -> bool {
+fn lacks_disk(rt: &impl Print, controller: &Controller) -> io::Result<bool> {
     if host::floppy_disk(controller) % 256 != 0 {
-        return false;
+        return Ok(false);
     }
-    text(b"no disk\n");
-    true
+    text(rt, b"no disk\n")?;
+    Ok(true)
 }
 
-pub(crate) fn geometry(controller: &Controller, table: &Table, content: &Content) {
-    if lacks_disk(controller) {
-        return;
+pub(crate) fn geometry(
+    rt: &impl Print,
+    controller: &Controller,
+    table: &Table,
+    content: &Content,
+) -> io::Result<()> {
+    if lacks_disk(rt, controller)? {
+        return Ok(());
     }
     let word = host::disk_geometry(table, content);
     if refusal(word) != 0 {
-        return answer(word);
+        return answer(rt, word);
     }
-    text(b"geometry");
-    field(word % 256);
-    field(word / 65536 % 256);
-    text(b"\n");
+    text(rt, b"geometry")?;
+    field(rt, word % 256)?;
+    field(rt, word / 65536 % 256)?;
+    text(rt, b"\n")
 }
 
-fn show_sector(found: u64, content: &Content) {
+fn show_sector(rt: &impl Print, found: u64, content: &Content) -> io::Result<()> {
     let from = found / 4294967296;
     let count = found % 65536;
-    named(found);
-    text(b",");
-    field(count);
-    text(b" bytes:");
-    rows(buffer::part(content, from as usize, count as usize));
+    named(rt, found)?;
+    text(rt, b",")?;
+    field(rt, count)?;
+    text(rt, b" bytes:")?;
+    rows(rt, buffer::part(content, from as usize, count as usize))
 }
 
 // The sector whose address stands in the first six bytes: side, cylinder, c, h, r and n.
-pub(crate) fn sector(controller: &Controller, table: &Table, content: &Content, address: &Spare) {
-    if lacks_disk(controller) {
-        return;
+pub(crate) fn sector(
+    rt: &impl Print,
+    controller: &Controller,
+    table: &Table,
+    content: &Content,
+    address: &Spare,
+) -> io::Result<()> {
+    if lacks_disk(rt, controller)? {
+        return Ok(());
     }
     let side = address[0];
     let cylinder = address[1];
@@ -357,22 +409,27 @@ pub(crate) fn sector(controller: &Controller, table: &Table, content: &Content, 
     let n = address[5];
     let word = host::disk_has_sector(table, content, side, cylinder, c, h, r, n);
     if refusal(word) != 0 {
-        return answer(word);
+        return answer(rt, word);
     }
     if word % 256 == 0 {
-        return text(b"no such sector\n");
+        return text(rt, b"no such sector\n");
     }
     let found = host::disk_sector(table, content, side, cylinder, c, h, r, n);
-    show_sector(found, content);
+    show_sector(rt, found, content)
 }
 
-pub(crate) fn disk(controller: &Controller, table: &Table, content: &Content) {
-    if lacks_disk(controller) {
-        return;
+pub(crate) fn disk(
+    rt: &impl Print,
+    controller: &Controller,
+    table: &Table,
+    content: &Content,
+) -> io::Result<()> {
+    if lacks_disk(rt, controller)? {
+        return Ok(());
     }
     let word = host::disk_geometry(table, content);
     if refusal(word) != 0 {
-        return answer(word);
+        return answer(rt, word);
     }
-    show::disk(table);
+    show::disk(rt, table)
 }

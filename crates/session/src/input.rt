@@ -1,7 +1,8 @@
 // Takes a script's lines from standard input, of which a piece is read at a time.
-ghost use Rattle.std.specs.Prelude.{◌<◌};
+ghost use Rattle.std.specs.Prelude.{◌<◌, IfOk};
 
-use libc::STDIN_FILENO;
+use std::io;
+use std::io::Read;
 
 // What was read at once.
 pub type Piece = [u8; 4096];
@@ -28,30 +29,26 @@ pub(crate) fn start() -> Input {
 }
 
 // Reads the next piece.
-fn read_piece(len: usize, piece: &mut Piece) -> Input
-    ensures { result.at < 4096 }
+fn read_piece(reader: &mut impl Read, len: usize, piece: &mut Piece) -> io::Result<Input>
+    ensures { IfOk result (λ input. input.at < 4096) }
 {
-    let got = libc::read(STDIN_FILENO, piece);
-    if got < 0 {
-        os::fail(b"session: standard input");
-    }
-    let end = io::count(got, piece);
-    Input {
+    let end = reader.read(piece)?;
+    Ok(Input {
         at: 0,
         end,
         len,
         over: end == 0,
-    }
+    })
 }
 
 // Sees that there is a byte to take, unless the input is over.
-fn more(input: Input, piece: &mut Piece) -> Input
-    ensures { result.at < 4096 }
+fn more(reader: &mut impl Read, input: Input, piece: &mut Piece) -> io::Result<Input>
+    ensures { IfOk result (λ input. input.at < 4096) }
 {
     if input.at < input.end && input.at < 4096 {
-        return input;
+        return Ok(input);
     }
-    read_piece(input.len, piece)
+    read_piece(reader, input.len, piece)
 }
 
 // Adds a byte to a line that has room, and answers how long it then is.
@@ -64,26 +61,31 @@ fn add(line: &mut Line, len: usize, b: u8) -> usize {
 }
 
 // Takes a line; a last one may have no newline.
-pub(crate) fn take_line(last: Input, piece: &mut Piece, line: &mut Line) -> Input {
+pub(crate) fn take_line(
+    reader: &mut impl Read,
+    last: Input,
+    piece: &mut Piece,
+    line: &mut Line,
+) -> io::Result<Input> {
     let mut input = last;
     input.len = 0;
     let mut left = u64::MAX;
     while 0 < left {
-        input = more(input, piece);
+        input = more(reader, input, piece)?;
         if input.over {
             input.over = input.len == 0;
-            return input;
+            return Ok(input);
         }
         let at = input.at;
         let b = piece[at];
         input.at = at + 1;
         if b == b'\n' {
-            return input;
+            return Ok(input);
         }
         input.len = add(line, input.len, b);
         left -= 1;
     }
-    input
+    Ok(input)
 }
 
 // The line that was taken.

@@ -13,12 +13,15 @@ mod show;
 use call::{Content, Controller, Table, Transfer};
 use input::take_line;
 use parse::{Name, Parsed, Spare, parse};
+use std::io;
+use std::rt::Files;
 
 // No line is longer.
 const LONGEST: usize = 4096;
 
 // Makes a call, and answers how much of the transfer buffer is lent from then on.
-fn obey(
+fn obey<R: Print + Files>(
+    rt: &R,
     name: Name,
     n: usize,
     number: u64,
@@ -29,33 +32,66 @@ fn obey(
     content: &mut Content,
     transfer: &mut Transfer,
     spare: &mut Spare,
-) -> usize {
+) -> io::Result<usize> {
     match name {
         Name::Unknown => {}
-        Name::Fresh => call::fresh(controller, table, content),
-        Name::Load => call::load(number, line::rest(text), controller, table, content, spare),
-        Name::Out => call::remove(controller),
-        Name::Machine => call::machine(n, controller),
-        Name::Motor => call::motor(n, controller),
-        Name::Status => call::status(n, controller, spare),
-        Name::Write => call::write(n, lent, controller, table, content, transfer, spare),
-        Name::Read => call::read(n, lent, controller, transfer, spare),
+        Name::Fresh => call::fresh(rt, controller, table, content)?,
+        Name::Load => call::load(
+            rt,
+            number,
+            line::rest(text),
+            controller,
+            table,
+            content,
+            spare,
+        )?,
+        Name::Out => call::remove(rt, controller)?,
+        Name::Machine => call::machine(rt, n, controller)?,
+        Name::Motor => call::motor(rt, n, controller)?,
+        Name::Status => call::status(rt, n, controller, spare)?,
+        Name::Write => call::write(rt, n, lent, controller, table, content, transfer, spare)?,
+        Name::Read => call::read(rt, n, lent, controller, transfer, spare)?,
         Name::Transfer => {
-            print::answer(0);
-            return n;
+            print::answer(rt, 0)?;
+            return Ok(n);
         }
-        Name::Geometry => call::geometry(controller, table, content),
-        Name::Sector => call::sector(controller, table, content, spare),
-        Name::Disk => call::disk(controller, table, content),
-        Name::Pause => call::pause(number, line::rest(text), lent, controller, transfer, spare),
-        Name::Resume => call::resume(number, line::rest(text), lent, controller, transfer, spare),
-        Name::Home => call::home(number, line::rest(text), controller, table, content, spare),
+        Name::Geometry => call::geometry(rt, controller, table, content)?,
+        Name::Sector => call::sector(rt, controller, table, content, spare)?,
+        Name::Disk => call::disk(rt, controller, table, content)?,
+        Name::Pause => call::pause(
+            rt,
+            number,
+            line::rest(text),
+            lent,
+            controller,
+            transfer,
+            spare,
+        )?,
+        Name::Resume => call::resume(
+            rt,
+            number,
+            line::rest(text),
+            lent,
+            controller,
+            transfer,
+            spare,
+        )?,
+        Name::Home => call::home(
+            rt,
+            number,
+            line::rest(text),
+            controller,
+            table,
+            content,
+            spare,
+        )?,
     }
-    lent
+    Ok(lent)
 }
 
 // Runs a line, and answers how much of the transfer buffer is lent from then on.
-fn run_line(
+fn run_line<R: Print + Files>(
+    rt: &R,
     number: u64,
     text: &[u8],
     lent: usize,
@@ -64,50 +100,53 @@ fn run_line(
     content: &mut Content,
     transfer: &mut Transfer,
     spare: &mut Spare,
-) -> usize {
+) -> io::Result<usize> {
     if LONGEST < text.len() {
-        message::too_long(number);
-        return lent;
+        message::too_long(rt, number)?;
+        return Ok(lent);
     }
     match parse(text, spare) {
-        Parsed::Nothing => lent,
+        Parsed::Nothing => Ok(lent),
         Parsed::Wrong(name, fault) => {
-            message::wrong(number, text, name, fault);
-            lent
+            message::wrong(rt, number, text, name, fault)?;
+            Ok(lent)
         }
         Parsed::Call(name, n) => obey(
-            name, n, number, text, lent, controller, table, content, transfer, spare,
+            rt, name, n, number, text, lent, controller, table, content, transfer, spare,
         ),
     }
 }
 
 // Runs every line.
-fn run(
+fn run<R: Input + Print + Files>(
+    rt: &R,
     controller: &mut Controller,
     table: &mut Table,
     content: &mut Content,
     transfer: &mut Transfer,
     spare: &mut Spare,
-) {
+) -> io::Result<()> {
     let mut piece = [0; 4096];
     let mut line = [0; 4097];
+    let mut reader = rt.reader();
     let mut input = input::start();
     let mut lent = transfer.len();
     let mut number: u64 = 0;
     while number < u64::MAX {
-        input = take_line(input, &mut piece, &mut line);
+        input = take_line(&mut reader, input, &mut piece, &mut line)?;
         if input.over {
-            return;
+            return Ok(());
         }
         number += 1;
         let text = input::taken(input, &line);
         lent = run_line(
-            number, text, lent, controller, table, content, transfer, spare,
-        );
+            rt, number, text, lent, controller, table, content, transfer, spare,
+        )?;
     }
+    Ok(())
 }
 
-fn main() {
+fn main(rt: HostRuntime) -> io::Result<()> {
     let mut controller = [0; layout::LENGTH];
     let mut table = [0; store::TABLE];
     let mut content = [0; fields::DATA];
@@ -115,10 +154,11 @@ fn main() {
     let mut spare = [0; 2097152];
     host::floppy_new(&mut controller);
     run(
+        &rt,
         &mut controller,
         &mut table,
         &mut content,
         &mut transfer,
         &mut spare,
-    );
+    )
 }

@@ -1,7 +1,7 @@
 // Output: each text goes to standard output at once, so that an operator sees every answer as it comes.
 ghost use Rattle.std.specs.Prelude.{◌≤◌};
 
-use libc::STDOUT_FILENO;
+use std::io;
 
 // No answer has more bytes.
 const MOST_SHOWN: usize = 65536;
@@ -9,22 +9,18 @@ const MOST_SHOWN: usize = 65536;
 // How many bytes of hex stand in a row.
 pub const ROW: usize = 16;
 
-pub(crate) fn text(letters: &[u8]) {
-    if !io::write_all(STDOUT_FILENO, letters) {
-        os::fail(b"session: standard output");
-    }
+pub(crate) fn text(rt: &impl Print, letters: &[u8]) -> io::Result<()> {
+    rt.write_all(letters)
 }
 
-fn decimal(n: u64) {
-    let mut digits = [0u8; 20];
-    let k = io::decimal(n, &mut digits);
-    text(&digits[..k]);
+fn decimal(rt: &impl Print, n: u64) -> io::Result<()> {
+    rt.print(n)
 }
 
 // A space and a number.
-pub(crate) fn field(n: u64) {
-    text(b" ");
-    decimal(n);
+pub(crate) fn field(rt: &impl Print, n: u64) -> io::Result<()> {
+    text(rt, b" ")?;
+    decimal(rt, n)
 }
 
 // How many blanks stand before a number in five columns.
@@ -51,7 +47,7 @@ fn hex_digit(n: u8) -> u8 {
 }
 
 // Bytes in hex, no more than a row has, a space before each, and the end of the row.
-fn row(bytes: &[u8]) {
+fn row(rt: &impl Print, bytes: &[u8]) -> io::Result<()> {
     let count = buffer::least(bytes.len(), ROW);
     let mut line = [b' '; 49];
     let mut i: usize = 0;
@@ -62,23 +58,24 @@ fn row(bytes: &[u8]) {
         i += 1;
     }
     line[3 * i] = b'\n';
-    text(buffer::part(&line, 0, 3 * i + 1));
+    text(rt, buffer::part(&line, 0, 3 * i + 1))
 }
 
 // Bytes in hex: on the line that has begun where they are few, else in rows, each behind its offset.
-pub(crate) fn rows(bytes: &[u8]) {
+pub(crate) fn rows(rt: &impl Print, bytes: &[u8]) -> io::Result<()> {
     if bytes.len() <= ROW {
-        return row(bytes);
+        return row(rt, bytes);
     }
-    text(b"\n");
+    text(rt, b"\n")?;
     let mut at: usize = 0;
     while at < bytes.len() && at < MOST_SHOWN {
-        text(buffer::part(b"    ", 0, blanks(at)));
-        decimal(at as u64);
-        text(b":");
-        row(buffer::part(bytes, at, ROW));
+        text(rt, buffer::part(b"    ", 0, blanks(at)))?;
+        decimal(rt, at as u64)?;
+        text(rt, b":")?;
+        row(rt, buffer::part(bytes, at, ROW))?;
         at += ROW;
     }
+    Ok(())
 }
 
 // The refusal number of an answer word, 0 where nothing was refused.
@@ -92,40 +89,40 @@ fn place(word: u64) -> u64 {
 }
 
 // That sector: its place, and how many of the track bear its ID.
-pub(crate) fn named(word: u64) {
-    text(b"sector");
-    field(place(word));
-    text(b" of");
-    field(word / 16777216 % 256);
-    text(b" with this ID");
+pub(crate) fn named(rt: &impl Print, word: u64) -> io::Result<()> {
+    text(rt, b"sector")?;
+    field(rt, place(word))?;
+    text(rt, b" of")?;
+    field(rt, word / 16777216 % 256)?;
+    text(rt, b" with this ID")
 }
 
 // That a call was good, and the sector that it names, where it names one.
-fn good(word: u64) {
-    text(b"ok");
+fn good(rt: &impl Print, word: u64) -> io::Result<()> {
+    text(rt, b"ok")?;
     if place(word) != 0 {
-        text(b", ");
-        named(word);
+        text(rt, b", ")?;
+        named(rt, word)?;
     }
-    text(b"\n");
+    text(rt, b"\n")
 }
 
 // The answer of a call that answers no byte.
-pub(crate) fn answer(word: u64) {
+pub(crate) fn answer(rt: &impl Print, word: u64) -> io::Result<()> {
     let why = refusal(word);
     if why == 0 {
-        return good(word);
+        return good(rt, word);
     }
-    text(b"refused");
-    field(why);
-    text(b"\n");
+    text(rt, b"refused")?;
+    field(rt, why)?;
+    text(rt, b"\n")
 }
 
 // The refusal of one of several bytes, counted from 1.
-pub(crate) fn refused_at(word: u64, number: usize) {
-    text(b"refused");
-    field(refusal(word));
-    text(b" at byte");
-    field(number as u64);
-    text(b"\n");
+pub(crate) fn refused_at(rt: &impl Print, word: u64, number: usize) -> io::Result<()> {
+    text(rt, b"refused")?;
+    field(rt, refusal(word))?;
+    text(rt, b" at byte")?;
+    field(rt, number as u64)?;
+    text(rt, b"\n")
 }
