@@ -52,37 +52,32 @@ fn named_folder(folder: PathBuf) -> Result<PathBuf, String> {
     }
 }
 
-/// The folder of this repository, into which the library is built if it is not there.
+/// The folder of this repository, where its script `library` makes the library if it is not there or a source is newer.
 fn own_folder() -> Result<PathBuf, String> {
     let root = Path::new(env!("CARGO_MANIFEST_DIR"))
         .parent()
         .ok_or("the crate stands in no repository")?;
-    let folder = root.join("target/staticlib");
-    if !folder.join(LIBRARY).is_file() {
-        build_library(root, &folder)?;
-    }
-    Ok(folder)
+    build_library(root)?;
+    Ok(root.join("target/staticlib"))
 }
 
 /// Has the Rattle kit prove and build the library. What it says is shown only where it fails.
-fn build_library(root: &Path, folder: &Path) -> Result<(), String> {
-    let missing = format!("there is no {LIBRARY} in {}", folder.display());
-    let built = Command::new("rt")
-        .args(["staticlib", "host"])
-        .current_dir(root)
-        .output()
-        .map_err(|error| {
-            format!(
-                "{missing}, and rt, which builds it, does not run ({error}); put the Rattle kit's \
-                 rt on the PATH, or set {VARIABLE} to a folder that has {LIBRARY}"
-            )
-        })?;
-    if built.status.success() && folder.join(LIBRARY).is_file() {
+fn build_library(root: &Path) -> Result<(), String> {
+    let script = root.join("library");
+    let built = Command::new(&script).output().map_err(|error| {
+        format!(
+            "{}, which makes {LIBRARY}, does not run ({error}); set {VARIABLE} to a folder that has {LIBRARY}",
+            script.display()
+        )
+    })?;
+    if built.status.success() {
         return Ok(());
     }
     let said = [built.stdout, built.stderr].concat();
     Err(format!(
-        "{missing}, and 'rt staticlib host' does not build it:\n{}",
+        "{} does not make {LIBRARY}; put the Rattle kit's rt on the PATH, or set {VARIABLE} to a folder that has \
+         {LIBRARY}:\n{}",
+        script.display(),
         String::from_utf8_lossy(&said)
     ))
 }

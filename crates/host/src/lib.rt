@@ -1,4 +1,4 @@
-// The exported calls, for C and Rust: on numbers and byte slices, each with one word for its answer. docs/HOST.md describes them.
+// The calls that `host_c` exports for C and Rust: on numbers and byte slices, each with one word for its answer. docs/HOST.md describes them.
 // Nothing is kept between two calls: a controller and a disk are the bytes that the host lends.
 #![tactic(auto)]
 
@@ -24,24 +24,21 @@ use words::{
 // ---- lengths
 
 // Answers how many bytes a controller is, as a plain number.
-#[unsafe(no_mangle)]
-pub extern "C" fn floppy_controller_length() -> u64
+pub fn floppy_controller_length() -> u64
     ensures { result ≡ controller_length }
 {
     LENGTH as u64
 }
 
 // Answers how many bytes the table of a disk is, as a plain number.
-#[unsafe(no_mangle)]
-pub extern "C" fn disk_table_length() -> u64
+pub fn disk_table_length() -> u64
     ensures { result ≡ table_length }
 {
     TABLE as u64
 }
 
 // Answers how many bytes the longest sheet is, as a plain number.
-#[unsafe(no_mangle)]
-pub extern "C" fn floppy_sheet_length() -> u64
+pub fn floppy_sheet_length() -> u64
     ensures { result ≡ longest_sheet }
 {
     LONGEST as u64
@@ -107,24 +104,21 @@ fn make(controller: &mut [u8], setting: u8) -> u64
     0
 }
 
-#[unsafe(no_mangle)]
-pub extern "C" fn floppy_new_with(controller: &mut [u8], setting: u8) -> u64
+pub fn floppy_new_with(controller: &mut [u8], setting: u8) -> u64
     ensures { answered result controller.new ≡ new_on setting controller.old }
 {
     make(controller, setting)
 }
 
 // The same with setting 0, the Rust machine.
-#[unsafe(no_mangle)]
-pub extern "C" fn floppy_new(controller: &mut [u8]) -> u64
+pub fn floppy_new(controller: &mut [u8]) -> u64
     ensures { answered result controller.new ≡ new_on 0 controller.old }
 {
     make(controller, 0)
 }
 
 // Answers the setting that the controller was made with. 1 as a refusal where no controller has these bytes.
-#[unsafe(no_mangle)]
-pub extern "C" fn floppy_setting(controller: &[u8]) -> u64
+pub fn floppy_setting(controller: &[u8]) -> u64
     ensures { result ≡ setting_on controller.now }
 {
     if !formed(controller) {
@@ -135,8 +129,7 @@ pub extern "C" fn floppy_setting(controller: &[u8]) -> u64
 }
 
 // Turns the motor off (0) or on, and changes nothing else. 1 where no controller has these bytes, and they stay.
-#[unsafe(no_mangle)]
-pub extern "C" fn floppy_set_motor(controller: &mut [u8], on: u8) -> u64
+pub fn floppy_set_motor(controller: &mut [u8], on: u8) -> u64
     ensures { answered result controller.new ≡ set_motor_on (not (eqb on 0)) controller.old }
 {
     if !formed(controller) {
@@ -147,8 +140,7 @@ pub extern "C" fn floppy_set_motor(controller: &mut [u8], on: u8) -> u64
 }
 
 // Answers 1 if the motor is on, else 0. 1 as a refusal where no controller has these bytes.
-#[unsafe(no_mangle)]
-pub extern "C" fn floppy_motor(controller: &[u8]) -> u64
+pub fn floppy_motor(controller: &[u8]) -> u64
     ensures { result ≡ motor_on controller.now }
 {
     if !formed(controller) {
@@ -159,8 +151,7 @@ pub extern "C" fn floppy_motor(controller: &[u8]) -> u64
 }
 
 // Answers the cylinder that the head is over. 1 as a refusal where no controller has these bytes.
-#[unsafe(no_mangle)]
-pub extern "C" fn floppy_current_track(controller: &[u8]) -> u64
+pub fn floppy_current_track(controller: &[u8]) -> u64
     ensures { result ≡ track_on controller.now }
 {
     if !formed(controller) {
@@ -172,8 +163,7 @@ pub extern "C" fn floppy_current_track(controller: &[u8]) -> u64
 
 // Takes the disk out (0), or puts in the one that is lent from now on; all else is carried over, a write in progress included.
 // 1 where no controller has these bytes, and they stay.
-#[unsafe(no_mangle)]
-pub extern "C" fn floppy_set_disk(controller: &mut [u8], present: u8) -> u64
+pub fn floppy_set_disk(controller: &mut [u8], present: u8) -> u64
     ensures { answered result controller.new ≡ set_disk_on (not (eqb present 0)) controller.old }
 {
     if !formed(controller) {
@@ -184,8 +174,7 @@ pub extern "C" fn floppy_set_disk(controller: &mut [u8], present: u8) -> u64
 }
 
 // Answers 1 if a disk is in the drive, else 0. 1 as a refusal where no controller has these bytes.
-#[unsafe(no_mangle)]
-pub extern "C" fn floppy_disk(controller: &[u8]) -> u64
+pub fn floppy_disk(controller: &[u8]) -> u64
     ensures { result ≡ disk_on controller.now }
 {
     if !formed(controller) {
@@ -196,8 +185,7 @@ pub extern "C" fn floppy_disk(controller: &[u8]) -> u64
 }
 
 // Answers the main status, counts a read that was lost and ends a seek that is done. 1 where no controller has these bytes, and they stay.
-#[unsafe(no_mangle)]
-pub extern "C" fn floppy_read_status(controller: &mut [u8]) -> u64
+pub fn floppy_read_status(controller: &mut [u8]) -> u64
     ensures { answered result controller.new ≡ status_on controller.old }
 {
     if !formed(controller) {
@@ -209,8 +197,7 @@ pub extern "C" fn floppy_read_status(controller: &mut [u8]) -> u64
 
 // Answers the next byte of the data, else of the reply, else 0. The transfer buffer is the one that the data were read into.
 // 1 where no controller has these bytes or their data end past the buffer, and they stay.
-#[unsafe(no_mangle)]
-pub extern "C" fn floppy_read_cmd(controller: &mut [u8], transfer: &[u8]) -> u64
+pub fn floppy_read_cmd(controller: &mut [u8], transfer: &[u8]) -> u64
     ensures { answered result controller.new ≡ read_on controller.old transfer.now }
 {
     if !formed(controller) {
@@ -222,8 +209,7 @@ pub extern "C" fn floppy_read_cmd(controller: &mut [u8], transfer: &[u8]) -> u64
 
 // Sends a byte to the data port. The last byte of a command has it obeyed, the last one of a write has it saved; the disk is the one in table and
 // bytes. A byte that is refused is not taken: every lent byte is as it came, and it may be sent again.
-#[unsafe(no_mangle)]
-pub extern "C" fn floppy_write_cmd(
+pub fn floppy_write_cmd(
     controller: &mut [u8],
     table: &mut [u8],
     bytes: &mut [u8],
@@ -245,8 +231,7 @@ pub extern "C" fn floppy_write_cmd(
 
 // Writes the controller out as a sheet at the buffer's start, and answers its length in bits 32 to 63; bytes behind it stay. 1 where no controller
 // has these bytes or their data end past the transfer buffer, then 13 for a buffer that is too short: it stays.
-#[unsafe(no_mangle)]
-pub extern "C" fn floppy_write_sheet(controller: &[u8], transfer: &[u8], sheet: &mut [u8]) -> u64
+pub fn floppy_write_sheet(controller: &[u8], transfer: &[u8], sheet: &mut [u8]) -> u64
     ensures { answered result sheet.new ≡ write_sheet_on controller.now transfer.now sheet.old }
 {
     if !formed(controller) {
@@ -259,8 +244,7 @@ pub extern "C" fn floppy_write_sheet(controller: &[u8], transfer: &[u8], sheet: 
 // Makes the bytes the controller of a sheet, which all of `sheet` is, with no disk, whatever they were. Its unread data are laid from the transfer
 // buffer's start; bytes behind them stay. 1 for a controller of another length, 11 for bytes that are no sheet, 9 for unread data over the room, in
 // this order: both buffers stay.
-#[unsafe(no_mangle)]
-pub extern "C" fn floppy_read_sheet(controller: &mut [u8], transfer: &mut [u8], sheet: &[u8]) -> u64
+pub fn floppy_read_sheet(controller: &mut [u8], transfer: &mut [u8], sheet: &[u8]) -> u64
     ensures { taken_up result controller.new transfer.new
         ≡ read_sheet_on controller.old transfer.old sheet.now }
 {
@@ -275,8 +259,7 @@ pub extern "C" fn floppy_read_sheet(controller: &mut [u8], transfer: &mut [u8], 
 // ---- the disk
 
 // Loads an image into table and bytes. A refusal (2 to 8) leaves every lent byte as it came.
-#[unsafe(no_mangle)]
-pub extern "C" fn disk_new(image: &[u8], table: &mut [u8], bytes: &mut [u8]) -> u64
+pub fn disk_new(image: &[u8], table: &mut [u8], bytes: &mut [u8]) -> u64
     ensures { outcome result table.new bytes.new
         ≡ worded (load_of image.now table.old bytes.old) }
 {
@@ -284,8 +267,7 @@ pub extern "C" fn disk_new(image: &[u8], table: &mut [u8], bytes: &mut [u8]) -> 
 }
 
 // Puts a fresh disk into table and bytes: 40 tracks of nine sectors. A refusal (2 or 8) leaves every lent byte as it came.
-#[unsafe(no_mangle)]
-pub extern "C" fn disk_new_formatted(table: &mut [u8], bytes: &mut [u8]) -> u64
+pub fn disk_new_formatted(table: &mut [u8], bytes: &mut [u8]) -> u64
     ensures { outcome result table.new bytes.new ≡ worded (fresh_of table.old bytes.old) }
 {
     done_word(loading::new_formatted(table, bytes))
@@ -293,8 +275,7 @@ pub extern "C" fn disk_new_formatted(table: &mut [u8], bytes: &mut [u8]) -> u64
 
 // Answers how long the image of the disk is that `disk_write_image` writes, in bits 32 to 63. 2 for bytes that hold no disk, then 12 for a disk that
 // has no extended image.
-#[unsafe(no_mangle)]
-pub extern "C" fn disk_image_length(table: &[u8], bytes: &[u8]) -> u64
+pub fn disk_image_length(table: &[u8], bytes: &[u8]) -> u64
     ensures { result ≡ image_length_on table.now bytes.now }
 {
     extent_word(home::image_length(table, bytes))
@@ -302,8 +283,7 @@ pub extern "C" fn disk_image_length(table: &[u8], bytes: &[u8]) -> u64
 
 // Writes the disk as an extended image at the buffer's start, and answers its length in bits 32 to 63; bytes behind it stay. 2, 12, then 13 for a
 // buffer that is too short: it stays.
-#[unsafe(no_mangle)]
-pub extern "C" fn disk_write_image(table: &[u8], bytes: &[u8], image: &mut [u8]) -> u64
+pub fn disk_write_image(table: &[u8], bytes: &[u8], image: &mut [u8]) -> u64
     ensures { answered result image.new
         ≡ write_image_on table.now bytes.now image.old }
 {
@@ -311,16 +291,14 @@ pub extern "C" fn disk_write_image(table: &[u8], bytes: &[u8], image: &mut [u8])
 }
 
 // Answers the greatest cylinder of side 0, and of the other sides in bits 16 to 23. 2 for bytes that hold no disk.
-#[unsafe(no_mangle)]
-pub extern "C" fn disk_geometry(table: &[u8], bytes: &[u8]) -> u64
+pub fn disk_geometry(table: &[u8], bytes: &[u8]) -> u64
     ensures { result ≡ geometry_word (geometry_of (disk_of table.now bytes.now)) }
 {
     geometry_word(store::geometry(table, bytes))
 }
 
 // Answers 1 if a sector with this ID is on this side and cylinder, else 0. 2 for bytes that hold no disk.
-#[unsafe(no_mangle)]
-pub extern "C" fn disk_has_sector(
+pub fn disk_has_sector(
     table: &[u8],
     bytes: &[u8],
     side: u8,
@@ -338,8 +316,7 @@ pub extern "C" fn disk_has_sector(
 
 // Answers where the bytes of that sector stand, which one of its track it is and how many bytes it has, as a plain number; 0 where there is none, or
 // no disk.
-#[unsafe(no_mangle)]
-pub extern "C" fn disk_sector(
+pub fn disk_sector(
     table: &[u8],
     bytes: &[u8],
     side: u8,
