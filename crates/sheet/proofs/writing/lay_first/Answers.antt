@@ -1,0 +1,43 @@
+use mathlib.Core.Path.{◌≡◌, sym, ap, ◌∙◌}
+use Prim.Native.Nat.{◌-◌}
+use native.Mathlib.Omega.{arith}
+use lib.ListN.{length, take}
+use lib.Seq.{length-take-le, length-slice}
+use Rattle.buffer.proofs.Overs.{slice-drop}
+use Rattle.sheet.proofs.Lays.{laid-first}
+use borrow.Author.Rules.{rules}
+use Rattle.sheet.proofs.writing.lay_first.Goals as goal
+
+pub slice_bounds-command-end : goal.slice_bounds-command-end
+slice_bounds-command-end c = omega (arith, (let known : (length c.args.r.command ≡ 9) × (length c.args.r.reply ≡ 7) = search rules in known).0, c.requires.0)
+
+pub slice_bounds-put-end : goal.slice_bounds-put-end
+slice_bounds-put-end c =
+    sym (let nine = (let known : (length c.args.r.command ≡ 9) × (length c.args.r.reply ≡ 7) = search rules in known).0 in
+    let seven = (let known : (length c.args.r.command ≡ 9) × (length c.args.r.reply ≡ 7) = search rules in known).1 in
+    (length-take-le c.args.r.count c.args.r.command (omega arith), ap length (slice-drop c.args.r.reply c.args.r.place c.args.r.fill) ∙ length-slice c.args.r.place c.args.r.fill c.args.r.reply (omega arith))).0
+
+pub put-next-requires : goal.put-next-requires
+put-next-requires c =
+    omega (arith, (let nine = (let known : (length c.args.r.command ≡ 9) × (length c.args.r.reply ≡ 7) = search rules in known).0 in
+    let seven = (let known : (length c.args.r.command ≡ 9) × (length c.args.r.reply ≡ 7) = search rules in known).1 in
+    (length-take-le c.args.r.count c.args.r.command (omega arith), ap length (slice-drop c.args.r.reply c.args.r.place c.args.r.fill) ∙ length-slice c.args.r.place c.args.r.fill c.args.r.reply (omega arith))).0, c.requires.1)
+
+pub slice_bounds-put-end-2 : goal.slice_bounds-put-end-2
+slice_bounds-put-end-2 c = omega (arith, (let known : (length c.args.r.command ≡ 9) × (length c.args.r.reply ≡ 7) = search rules in known).1, c.requires.0)
+
+pub put-requires : goal.put-requires
+put-requires c =
+    omega (arith, (let nine = (let known : (length c.args.r.command ≡ 9) × (length c.args.r.reply ≡ 7) = search rules in known).0 in
+    let seven = (let known : (length c.args.r.command ≡ 9) × (length c.args.r.reply ≡ 7) = search rules in known).1 in
+    (length-take-le c.args.r.count c.args.r.command (omega arith), ap length (slice-drop c.args.r.reply c.args.r.place c.args.r.fill) ∙ length-slice c.args.r.place c.args.r.fill c.args.r.reply (omega arith))), c.requires.1, c.put-next.ensures.1)
+
+pub returns : goal.returns
+returns c =
+    (
+      laid-first _ _ _ _ _ (take c.args.r.count c.args.r.command) _ _ c.args.r c.args.rest _ (slice-drop c.args.r.reply c.args.r.place c.args.r.fill) c.opening-first.ensures c.copy_in.ensures
+          c.put-next.ensures.0 c.put-next.ensures.1 c.put.ensures.0,
+      omega (arith, (let nine = (let known : (length c.args.r.command ≡ 9) × (length c.args.r.reply ≡ 7) = search rules in known).0 in
+    let seven = (let known : (length c.args.r.command ≡ 9) × (length c.args.r.reply ≡ 7) = search rules in known).1 in
+    (length-take-le c.args.r.count c.args.r.command (omega arith), ap length (slice-drop c.args.r.reply c.args.r.place c.args.r.fill) ∙ length-slice c.args.r.place c.args.r.fill c.args.r.reply (omega arith))), c.put.ensures.1, c.put-next.ensures.1),
+    )
