@@ -110,7 +110,7 @@ fn put_work(sheet: &mut [u8], at: usize, here: bool, p: Pending, held: &[u8]) ->
 // Lays the write, the machine and the Format.
 fn lay_works(r: Regs, held: &[u8], at: usize, sheet: &mut [u8])
     requires taken_in_bounds { r.write.on ≡ true → r.write.taken ≤ length held.now }
-    requires taken_in_bounds_2 { at + 7 + cond r.write.on (5 + r.write.taken) 0 ≤ length sheet.old }
+    requires room { at + 7 + cond r.write.on (5 + r.write.taken) 0 ≤ length sheet.old }
     ensures { sheet.new ≡ over sheet.old at
         (box_for 2 (write_box (writing_if r.write.on r.write held.now))
         (box_for 2 (r.setting % 2 ∷ []) (box_for 2 (format_box (writing_if r.write.on r.write held.now)) []))) }
@@ -167,7 +167,7 @@ fn lay_first(r: Regs, rest: usize, sheet: &mut [u8]) -> usize
 fn lay_rest(r: Regs, held: &[u8], transfer: &[u8], at: usize, sheet: &mut [u8])
     requires from_le_until { (r.from ≤ r.until) × (r.until ≤ length transfer.now) }
     requires taken_in_bounds { r.write.on ≡ true → r.write.taken ≤ length held.now }
-    requires taken_in_bounds_2 { at + 14 + (r.until - r.from) + cond r.write.on (5 + r.write.taken) 0 ≤ length sheet.old }
+    requires room { at + 14 + (r.until - r.from) + cond r.write.on (5 + r.write.taken) 0 ≤ length sheet.old }
     ensures { sheet.new ≡ over sheet.old at (box_for 4 (slice r.from r.until transfer.now)
         (box_for 2 (r.lost ∷ []) (box_for 2 (write_box (writing_if r.write.on r.write held.now))
         (box_for 2 (r.setting % 2 ∷ []) (box_for 2 (format_box (writing_if r.write.on r.write held.now)) []))))) }

@@ -1,4 +1,6 @@
 use Rattle.sheet.proofs.Judges.{range-true, judge-form, judge-range, judge-boxes, judge-room, judge-good}
+use mathlib.Core.Path.{ap}
+use mathlib.Core.Bool.{not}
 use borrow.Author.Rules.{rules}
 use Rattle.sheet.proofs.reading.judge.Goals as goal
 
@@ -9,7 +11,7 @@ pub returns-then-not-in_range : goal.returns-then-not-in_range
 returns-then-not-in_range c = search (rules, judge-range)
 
 pub wrong_boxes-requires : goal.wrong_boxes-requires
-wrong_boxes-requires c = range-true _ c.args.p _ c.in_range.ensures c.if-not-in_range.false
+wrong_boxes-requires c = range-true _ c.args.p _ c.in_range.ensures (ap not c.if-not-in_range.false)
 
 pub returns-then-wrong_boxes : goal.returns-then-wrong_boxes
 returns-then-wrong_boxes c = search (rules, judge-boxes)

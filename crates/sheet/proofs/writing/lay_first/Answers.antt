@@ -9,35 +9,39 @@ use borrow.Author.Rules.{rules}
 use Rattle.sheet.proofs.writing.lay_first.Goals as goal
 
 pub slice_bounds-command-end : goal.slice_bounds-command-end
-slice_bounds-command-end c = omega (arith, (let known : (length c.args.r.command ≡ 9) × (length c.args.r.reply ≡ 7) = search rules in known).0, c.requires.0)
+slice_bounds-command-end c = let nine : length c.args.r.command ≡ 9 = search rules in omega (arith, c.requires.count_bound)
 
 pub slice_bounds-put-end : goal.slice_bounds-put-end
 slice_bounds-put-end c =
-    sym (let nine = (let known : (length c.args.r.command ≡ 9) × (length c.args.r.reply ≡ 7) = search rules in known).0 in
-    let seven = (let known : (length c.args.r.command ≡ 9) × (length c.args.r.reply ≡ 7) = search rules in known).1 in
-    (length-take-le c.args.r.count c.args.r.command (omega arith), ap length (slice-drop c.args.r.reply c.args.r.place c.args.r.fill) ∙ length-slice c.args.r.place c.args.r.fill c.args.r.reply (omega arith))).0
+    let nine : length c.args.r.command ≡ 9 = search rules in
+    sym (length-take-le c.args.r.count c.args.r.command (omega (arith, c.requires.count_bound)))
 
 pub put-next-requires : goal.put-next-requires
 put-next-requires c =
-    omega (arith, (let nine = (let known : (length c.args.r.command ≡ 9) × (length c.args.r.reply ≡ 7) = search rules in known).0 in
-    let seven = (let known : (length c.args.r.command ≡ 9) × (length c.args.r.reply ≡ 7) = search rules in known).1 in
-    (length-take-le c.args.r.count c.args.r.command (omega arith), ap length (slice-drop c.args.r.reply c.args.r.place c.args.r.fill) ∙ length-slice c.args.r.place c.args.r.fill c.args.r.reply (omega arith))).0, c.requires.1)
+    let nine : length c.args.r.command ≡ 9 = search rules in
+    let sent = length-take-le c.args.r.count c.args.r.command (omega (arith, c.requires.count_bound)) in
+    omega (arith, sent, c.requires.place_in_bounds)
 
 pub slice_bounds-put-end-2 : goal.slice_bounds-put-end-2
-slice_bounds-put-end-2 c = omega (arith, (let known : (length c.args.r.command ≡ 9) × (length c.args.r.reply ≡ 7) = search rules in known).1, c.requires.0)
+slice_bounds-put-end-2 c = let seven : length c.args.r.reply ≡ 7 = search rules in omega (arith, c.requires.count_bound)
 
 pub put-requires : goal.put-requires
 put-requires c =
-    omega (arith, (let nine = (let known : (length c.args.r.command ≡ 9) × (length c.args.r.reply ≡ 7) = search rules in known).0 in
-    let seven = (let known : (length c.args.r.command ≡ 9) × (length c.args.r.reply ≡ 7) = search rules in known).1 in
-    (length-take-le c.args.r.count c.args.r.command (omega arith), ap length (slice-drop c.args.r.reply c.args.r.place c.args.r.fill) ∙ length-slice c.args.r.place c.args.r.fill c.args.r.reply (omega arith))), c.requires.1, c.put-next.ensures.1)
+    let nine : length c.args.r.command ≡ 9 = search rules in
+    let seven : length c.args.r.reply ≡ 7 = search rules in
+    let sent = length-take-le c.args.r.count c.args.r.command (omega (arith, c.requires.count_bound)) in
+    let left = ap length (slice-drop c.args.r.reply c.args.r.place c.args.r.fill)
+    ∙ length-slice c.args.r.place c.args.r.fill c.args.r.reply (omega (arith, c.requires.count_bound)) in
+    omega (arith, sent, left, c.requires.place_in_bounds, c.put-next.ensures.1)
 
 pub returns : goal.returns
 returns c =
-    (
-      laid-first _ _ _ _ _ (take c.args.r.count c.args.r.command) _ _ c.args.r c.args.rest _ (slice-drop c.args.r.reply c.args.r.place c.args.r.fill) c.opening-first.ensures c.copy_in.ensures
-          c.put-next.ensures.0 c.put-next.ensures.1 c.put.ensures.0,
-      omega (arith, (let nine = (let known : (length c.args.r.command ≡ 9) × (length c.args.r.reply ≡ 7) = search rules in known).0 in
-    let seven = (let known : (length c.args.r.command ≡ 9) × (length c.args.r.reply ≡ 7) = search rules in known).1 in
-    (length-take-le c.args.r.count c.args.r.command (omega arith), ap length (slice-drop c.args.r.reply c.args.r.place c.args.r.fill) ∙ length-slice c.args.r.place c.args.r.fill c.args.r.reply (omega arith))), c.put.ensures.1, c.put-next.ensures.1),
+    let nine : length c.args.r.command ≡ 9 = search rules in
+    let seven : length c.args.r.reply ≡ 7 = search rules in
+    let sent = length-take-le c.args.r.count c.args.r.command (omega (arith, c.requires.count_bound)) in
+    let left = ap length (slice-drop c.args.r.reply c.args.r.place c.args.r.fill)
+    ∙ length-slice c.args.r.place c.args.r.fill c.args.r.reply (omega (arith, c.requires.count_bound)) in (
+      laid-first _ _ _ _ _ (take c.args.r.count c.args.r.command) _ _ c.args.r c.args.rest _ (slice-drop c.args.r.reply c.args.r.place c.args.r.fill)
+          c.opening-first.ensures c.copy_in.ensures c.put-next.ensures.0 c.put-next.ensures.1 c.put.ensures.0,
+      omega (arith, sent, left, c.put.ensures.1, c.put-next.ensures.1),
     )

@@ -10,16 +10,32 @@ pub returns-then-impossible_with : goal.returns-then-impossible_with
 returns-then-impossible_with c = written-wrong c.args.r c.args.held.now c.args.transfer.now c.args.sheet.now (sym c.impossible_with.ensures ∙ c.if-impossible_with.true)
 
 pub size-n-requires : goal.size-n-requires
-size-n-requires c = ((known c.args.r c.args.held.now c.args.transfer.now (let known : (length c.args.r.command ≡ 9) × (length c.args.r.reply ≡ 7) = search rules in known).0 (let known : (length c.args.r.command ≡ 9) × (length c.args.r.reply ≡ 7) = search rules in known).1 (sym c.impossible_with.ensures ∙ c.if-impossible_with.false)).place_in, (known c.args.r c.args.held.now c.args.transfer.now (let known : (length c.args.r.command ≡ 9) × (length c.args.r.reply ≡ 7) = search rules in known).0 (let known : (length c.args.r.command ≡ 9) × (length c.args.r.reply ≡ 7) = search rules in known).1 (sym c.impossible_with.ensures ∙ c.if-impossible_with.false)).from_in)
+size-n-requires c =
+    let nine : length c.args.r.command ≡ 9 = search rules in
+    let seven : length c.args.r.reply ≡ 7 = search rules in
+    ((known c.args.r c.args.held.now c.args.transfer.now nine seven (sym c.impossible_with.ensures ∙ c.if-impossible_with.false)).place_in, (known c.args.r c.args.held.now c.args.transfer.now nine seven (sym c.impossible_with.ensures ∙ c.if-impossible_with.false)).from_in)
 
 pub returns-then-sheet-n : goal.returns-then-sheet-n
-returns-then-sheet-n c = written-short c.args.r c.args.held.now c.args.transfer.now c.args.sheet.now c.size-n.result (sym c.impossible_with.ensures ∙ c.if-impossible_with.false) (c.size-n.ensures ∙ sym (sheet-size c.args.r c.args.held.now c.args.transfer.now (let known : (length c.args.r.command ≡ 9) × (length c.args.r.reply ≡ 7) = search rules in known).0 (let known : (length c.args.r.command ≡ 9) × (length c.args.r.reply ≡ 7) = search rules in known).1 (sym c.impossible_with.ensures ∙ c.if-impossible_with.false))) c.if-sheet-n.true
+returns-then-sheet-n c =
+    let nine : length c.args.r.command ≡ 9 = search rules in
+    let seven : length c.args.r.reply ≡ 7 = search rules in
+    written-short c.args.r c.args.held.now c.args.transfer.now c.args.sheet.now c.size-n.result (sym c.impossible_with.ensures ∙ c.if-impossible_with.false) (c.size-n.ensures ∙ sym (sheet-size c.args.r c.args.held.now c.args.transfer.now nine seven (sym c.impossible_with.ensures ∙ c.if-impossible_with.false))) c.if-sheet-n.true
 
 pub lay-requires : goal.lay-requires
-lay-requires c = ((sym c.impossible_with.ensures ∙ c.if-impossible_with.false), ((c.size-n.ensures ∙ sym (sheet-size c.args.r c.args.held.now c.args.transfer.now (let known : (length c.args.r.command ≡ 9) × (length c.args.r.reply ≡ 7) = search rules in known).0 (let known : (length c.args.r.command ≡ 9) × (length c.args.r.reply ≡ 7) = search rules in known).1 (sym c.impossible_with.ensures ∙ c.if-impossible_with.false))), c.if-sheet-n.false))
+lay-requires c =
+    let nine : length c.args.r.command ≡ 9 = search rules in
+    let seven : length c.args.r.reply ≡ 7 = search rules in
+    let right = sym c.impossible_with.ensures ∙ c.if-impossible_with.false in
+    record { r_value = right; n_value = (c.size-n.ensures ∙ sym (sheet-size c.args.r c.args.held.now c.args.transfer.now nine seven right), c.if-sheet-n.false) }
 
 pub overflow_cast-result : goal.overflow_cast-result
-overflow_cast-result c = omega (arith, (c.size-n.ensures ∙ sym (sheet-size c.args.r c.args.held.now c.args.transfer.now (let known : (length c.args.r.command ≡ 9) × (length c.args.r.reply ≡ 7) = search rules in known).0 (let known : (length c.args.r.command ≡ 9) × (length c.args.r.reply ≡ 7) = search rules in known).1 (sym c.impossible_with.ensures ∙ c.if-impossible_with.false))), sheet-most c.args.r c.args.held.now c.args.transfer.now (let known : (length c.args.r.command ≡ 9) × (length c.args.r.reply ≡ 7) = search rules in known).1 (sym c.impossible_with.ensures ∙ c.if-impossible_with.false))
+overflow_cast-result c =
+    let nine : length c.args.r.command ≡ 9 = search rules in
+    let seven : length c.args.r.reply ≡ 7 = search rules in
+    omega (arith, (c.size-n.ensures ∙ sym (sheet-size c.args.r c.args.held.now c.args.transfer.now nine seven (sym c.impossible_with.ensures ∙ c.if-impossible_with.false))), sheet-most c.args.r c.args.held.now c.args.transfer.now seven (sym c.impossible_with.ensures ∙ c.if-impossible_with.false))
 
 pub returns : goal.returns
-returns c = written-whole c.args.r c.args.held.now c.args.transfer.now c.args.sheet.now c.size-n.result (sym c.impossible_with.ensures ∙ c.if-impossible_with.false) (c.size-n.ensures ∙ sym (sheet-size c.args.r c.args.held.now c.args.transfer.now (let known : (length c.args.r.command ≡ 9) × (length c.args.r.reply ≡ 7) = search rules in known).0 (let known : (length c.args.r.command ≡ 9) × (length c.args.r.reply ≡ 7) = search rules in known).1 (sym c.impossible_with.ensures ∙ c.if-impossible_with.false))) _ c.if-sheet-n.false c.lay.ensures
+returns c =
+    let nine : length c.args.r.command ≡ 9 = search rules in
+    let seven : length c.args.r.reply ≡ 7 = search rules in
+    written-whole c.args.r c.args.held.now c.args.transfer.now c.args.sheet.now c.size-n.result (sym c.impossible_with.ensures ∙ c.if-impossible_with.false) (c.size-n.ensures ∙ sym (sheet-size c.args.r c.args.held.now c.args.transfer.now nine seven (sym c.impossible_with.ensures ∙ c.if-impossible_with.false))) _ c.if-sheet-n.false c.lay.ensures
