@@ -123,11 +123,7 @@ fn save<W: Write>(
     }
 }
 
-fn show_served<W: Write>(
-    out: &mut W,
-    served: disk::Served,
-    transfer: &[u8],
-) -> io::Result<()> {
+fn show_served<W: Write>(out: &mut W, served: disk::Served, transfer: &[u8]) -> io::Result<()> {
     let total = served.total;
     let st2 = served.st2;
     replay::field(out, total as u64)?;
@@ -176,12 +172,7 @@ fn read<W: Write>(
 }
 
 // Side, cylinder, index.
-fn ask_id<W: Write>(
-    out: &mut W,
-    fields: &[u8],
-    table: &[u8],
-    bytes: &[u8],
-) -> io::Result<()> {
+fn ask_id<W: Write>(out: &mut W, fields: &[u8], table: &[u8], bytes: &[u8]) -> io::Result<()> {
     let idx = fields::word(fields, 2);
     replay::put(out, b"id")?;
     show_fields(out, fields, 2)?;

@@ -160,12 +160,7 @@ fn show_store<W: Write>(out: &mut W, table: &[u8], bytes: &[u8]) -> io::Result<(
 }
 
 // Reads an image through and loads it.
-fn show<W: Write>(
-    out: &mut W,
-    image: &[u8],
-    table: &mut [u8],
-    bytes: &mut [u8],
-) -> io::Result<()> {
+fn show<W: Write>(out: &mut W, image: &[u8], table: &mut [u8], bytes: &mut [u8]) -> io::Result<()> {
     match image::survey(image) {
         image::Surveyed::Refused(why) => replay::refused(out, why),
         image::Surveyed::Good(totals, _) => {
