@@ -1,9 +1,8 @@
 -- Seen as boxes, a call on the registers is what `Ports` says of the boxes seen.
-use Rattle.std.proofs.Common.{◌≡◌, ℕ, zero, suc, ◌+◌, ◌-◌, ◌<◌, ◌≤◌, Bool, true, false, eqb, ltb, List, [], ◌∷◌, length, get_or, take, drop, sym, refl, ap, ◌∙◌, ap₂, add-one, arith, drop_of_length-le, length-take-le, ltb-false, ltb-true, lt-ltb}
+use Rattle.std.proofs.Common.{◌≡◌, ℕ, zero, suc, ◌+◌, ◌<◌, ◌≤◌, Bool, true, false, eqb, ltb, List, [], ◌∷◌, length, get_or, take, drop, sym, refl, ap, ◌∙◌, ap₂, add-one, arith, drop_of_length-le, length-take-le, ltb-false, ltb-true, lt-ltb}
 use lib.Seq.{slice, slice-cons}
 use Rattle.fields.proofs.Tests.{never}
 use Rattle.store.specs.Store.{disk_of}
-use Rattle.store.specs.declared.answer.Done.TheVariants as finished
 use Rattle.registers.specs.declared.regs.Regs.{Regs}
 use Rattle.registers.specs.declared.regs.Pending.{Pending}
 use Rattle.registers.specs.declared.regs.Byte.TheVariants as byte

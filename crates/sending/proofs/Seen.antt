@@ -23,7 +23,6 @@ use Rattle.store.specs.Search.{sector_at, match_at}
 use Rattle.store.specs.declared.answer.Match.{Match}
 use Rattle.store.specs.Store.{room_of, table_of, data_of, disk_of}
 use Rattle.store.specs.Calls.{fitting}
-use Rattle.registers.specs.declared.regs.Receipt.TheVariants as receipt
 use Rattle.disk.specs.Change.{saved, set_track}
 use Rattle.disk.proofs.Accepts.{format-accepted, save-accepted}
 use Rattle.codes.specs.declared.command.Command.{Command}

@@ -1,6 +1,5 @@
 -- The table of sessions holds.
 use mathlib.Core.Path.{◌≡◌, refl}
-use Prim.Native.Nat.{◌-◌}
 use mathlib.Core.Bool.{true}
 use Rattle.buffer.specs.Same.{same_bytes}
 use Rattle.fields.specs.Bytes.{number_at, text_at, with_bit}

@@ -12,10 +12,7 @@ use Rattle.fields.specs.declared.id.SectorId.{SectorId}
 use Rattle.store.specs.Search.{bearing}
 use Rattle.store.specs.Store.{table_length, sectors_at}
 use Rattle.store.specs.Spots.{row_here, sector_spot, bearing_at, hit_of, row_hit}
-use Rattle.store.specs.declared.answer.Match.{Match}
-use Rattle.store.specs.declared.find.Hit.{Hit}
 use Rattle.store.specs.declared.find.Hit.TheVariants as hit
-use Rattle.store.specs.declared.find.Spot.{Spot}
 use Rattle.store.specs.declared.find.Spot.TheVariants.{Nothing, At}
 use Rattle.store.proofs.Sums.{down-none}
 

@@ -7,7 +7,7 @@ use mathlib.Core.Bool.{Bool, true, false}
 use lib.ListN.{length, take, drop, length-take, length-drop}
 use lib.Dec.{leb}
 use borrow.Author.Tests.{lt-leb, le-leb, leb-true}
-use Rattle.fields.specs.Refusals.{Result, good, need, after}
+use Rattle.fields.specs.Refusals.{Result, good, need}
 use Rattle.fields.specs.Bytes.{byte_at, text_at, read_string}
 use Rattle.fields.specs.Model.{Sector, Track, total, track_bytes}
 use Rattle.tracks.specs.Block.{row_place, row_of, sector_of, sectors_from, stored_from, data_end, track_in, track_text, body_of, track_of, track_head, block_of}

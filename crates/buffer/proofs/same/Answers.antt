@@ -1,4 +1,3 @@
-use Prim.Native.Nat.{◌-◌}
 use borrow.Author.Rules.{rules}
 use Rattle.buffer.specs.Same.{same_bytes}
 use Rattle.buffer.proofs.Loops.{lengths_differ, same_turn, same-done}

@@ -1,4 +1,3 @@
-use Prim.Native.Nat.{◌-◌}
 use borrow.Author.Rules.{rules}
 use Rattle.buffer.proofs.Shifts.{exchange-no-first, exchange-no-second, exchange-start, exchange-turn, exchange-done}
 use Rattle.buffer.proofs.moves.exchange.Goals as goal

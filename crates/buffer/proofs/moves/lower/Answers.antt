@@ -1,5 +1,4 @@
 use mathlib.Core.Path.{refl, sym}
-use Prim.Native.Nat.{◌-◌}
 use borrow.Author.Rules.{rules}
 use Rattle.buffer.proofs.Overs.{over-nil}
 use Rattle.buffer.proofs.Shifts.{lower-turn, lower-done}

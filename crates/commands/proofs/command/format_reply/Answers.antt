@@ -1,5 +1,3 @@
-use Rattle.codes.proofs.bits.St0.from_c1.Reads as from-c1-reads
-use Rattle.registers.proofs.regs.Regs.reply7.Reads as reply7-reads
 use Rattle.commands.proofs.command.format_reply.Goals as goal
 
 pub returns : goal.returns

@@ -2,7 +2,6 @@ use mathlib.Core.Path.{sym, ap, ◌∙◌}
 use Rattle.registers.specs.Boxes.{setting_of, Response}
 use Rattle.registers.specs.Settle.{regs_responded}
 use Rattle.commands.proofs.Machines.{rust-invalid, sheet-invalid}
-use Rattle.registers.proofs.regs.Regs.reply1.Reads as reply1-reads
 use Rattle.commands.proofs.command.invalid.Goals as goal
 
 pub returns-then-is_rust : goal.returns-then-is_rust

@@ -3,8 +3,6 @@ use Prim.Native.Nat.{ℕ}
 use mathlib.Core.List.{List}
 use Rattle.registers.specs.Settle.{replied}
 use Rattle.commands.proofs.Machines.{rust-no-seek, sheet-no-seek}
-use Rattle.registers.proofs.regs.Regs.reply1.Reads as reply1-reads
-use Rattle.registers.proofs.regs.Regs.reply2.Reads as reply2-reads
 use Rattle.registers.specs.Boxes.{setting_of}
 use Rattle.commands.proofs.command.no_seek.Goals as goal
 

@@ -2,7 +2,6 @@ use mathlib.Core.Path.{sym, ap, ◌∙◌}
 use Rattle.registers.specs.declared.regs.Seek.{Seek}
 use Rattle.registers.specs.Settle.{regs_responded, interrupted_by}
 use Rattle.commands.specs.Commands.{no_seek}
-use Rattle.registers.proofs.regs.Regs.reply2.Reads as reply2-reads
 use Rattle.registers.specs.Boxes.{setting_of}
 use Rattle.commands.proofs.command.sense_interrupt.Goals as goal
 

@@ -1,5 +1,5 @@
 use mathlib.Core.Path.{refl, ap}
-use Prim.Native.Nat.{◌+◌, ◌-◌, ◌≤◌}
+use Prim.Native.Nat.{◌+◌, ◌≤◌}
 use lib.ListN.{length, length-take, length-drop}
 use Rattle.tracks.specs.declared.track.Row.{Row}
 use native.Mathlib.Omega.{arith}
@@ -24,10 +24,15 @@ copy_sector-requires c =
 
 pub overflow_add-total : goal.overflow_add-total
 overflow_add-total c =
-    omega (arith, (
-    gather-fits _ _ _ _ _ _ _ _ c.requires _ _ _ c.loop-k.invariant c.loop-k-test.true _ refl _ c.get_sector.ensures _ _ _ c.in-At.is _
-    (ap (λ (r : Row). r.stored) c.row_at-row.ensures) _ c.part.ensures), (
-    bytes_whole _ _ _ _ _ c.requires.rows _ _ c.get_sector.ensures _ _ _ c.in-At.is _ (ap (λ (r : Row). r.stored) c.row_at-row.ensures) _ c.part.ensures), c.loop-k.invariant.same)
+    omega (
+      arith,
+      (
+          gather-fits _ _ _ _ _ _ _ _ c.requires _ _ _ c.loop-k.invariant c.loop-k-test.true _ refl _ c.get_sector.ensures _ _ _ c.in-At.is _
+          (ap (λ (r : Row). r.stored) c.row_at-row.ensures) _ c.part.ensures),
+      (
+          bytes_whole _ _ _ _ _ c.requires.rows _ _ c.get_sector.ensures _ _ _ c.in-At.is _ (ap (λ (r : Row). r.stored) c.row_at-row.ensures) _ c.part.ensures),
+      c.loop-k.invariant.same,
+    )
 
 pub overflow_add-k : goal.overflow_add-k
 overflow_add-k c = omega (arith, c.loop-k-test.true, c.loop-k.invariant.within, c.requires.numbers)
@@ -37,9 +42,12 @@ loop-k-preserved c =
     gather-again _ _ _ _ _ _ _ _ c.requires _ _ _ c.loop-k.invariant c.loop-k-test.true _ refl _ c.get_sector.ensures _ _ _ c.in-At.is _
     (ap (λ (r : Row). r.stored) c.row_at-row.ensures) _ c.part.ensures ((
     bytes_whole _ _ _ _ _ c.requires.rows _ _ c.get_sector.ensures _ _ _ c.in-At.is _ (ap (λ (r : Row). r.stored) c.row_at-row.ensures) _ c.part.ensures)) _
-    (lent-over _ _ _ _ (omega (arith, (
-    gather-fits _ _ _ _ _ _ _ _ c.requires _ _ _ c.loop-k.invariant c.loop-k-test.true _ refl _ c.get_sector.ensures _ _ _ c.in-At.is _
-    (ap (λ (r : Row). r.stored) c.row_at-row.ensures) _ c.part.ensures))) c.copy_sector.ensures)
+    (lent-over _ _ _ _ (omega (
+      arith,
+      (
+          gather-fits _ _ _ _ _ _ _ _ c.requires _ _ _ c.loop-k.invariant c.loop-k-test.true _ refl _ c.get_sector.ensures _ _ _ c.in-At.is _
+          (ap (λ (r : Row). r.stored) c.row_at-row.ensures) _ c.part.ensures),
+    )) c.copy_sector.ensures)
 
 pub returns : goal.returns
 returns c = gather-done _ _ _ _ _ _ _ _ c.requires _ _ _ c.loop-k.invariant c.loop-k-test.false

@@ -1,5 +1,4 @@
 use mathlib.Core.Path.{refl, sym, ap, ◌∙◌}
-use Prim.Native.Nat.{◌-◌}
 use native.Mathlib.Omega.{arith}
 use Rattle.tracks.specs.declared.track.Row.{Row}
 use Rattle.disk.proofs.Extents.{measure-start, seek-start, measure-done, seek-again, number-found, number-none}

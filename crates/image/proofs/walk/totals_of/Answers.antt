@@ -1,5 +1,3 @@
-use Rattle.image.specs.declared.walk.Step.TheVariants as step
-use Prim.Native.Nat.{◌-◌}
 use native.Mathlib.Omega.{arith}
 use Rattle.image.proofs.Steps.{says_of, falls, count-start, count-refused, count-end, count-absent, count-track}
 use borrow.Author.Rules.{rules}

@@ -1,4 +1,3 @@
-use Rattle.image.specs.declared.walk.Step.TheVariants as step
 use Prim.Native.Nat.{◌-◌}
 use Rattle.image.proofs.Steps.{Counted}
 use Rattle.image.proofs.walk.totals_of.Given as goal

@@ -1,4 +1,3 @@
-use Prim.Native.Nat.{◌-◌}
 use native.Mathlib.Omega.{arith}
 use Rattle.loading.proofs.Lays.{fresh_start, fresh-again, fresh-done}
 use Rattle.loading.proofs.lay.lay_fresh.Goals as goal

@@ -12,8 +12,7 @@ copy_in-requires c =
     omega arith
 
 pub returns : goal.returns
-returns c =
-    (
-      two-parts _ _ _ _ _ _ _ c.put_head.ensures c.put_rows.ensures refl (omega arith),
-      c.copy_in.ensures ∙ ap (over _ _) c.part.ensures,
-    )
+returns c = (
+  two-parts _ _ _ _ _ _ _ c.put_head.ensures c.put_rows.ensures refl (omega arith),
+  c.copy_in.ensures ∙ ap (over _ _) c.part.ensures,
+)

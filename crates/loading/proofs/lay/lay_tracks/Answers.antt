@@ -1,5 +1,4 @@
 use mathlib.Core.Path.{refl}
-use Prim.Native.Nat.{◌-◌}
 use native.Mathlib.Omega.{arith}
 use Rattle.image.specs.declared.walk.Step.TheVariants as step
 use Rattle.image.proofs.Steps.{says_of, falls}

@@ -1,5 +1,4 @@
 use Prim.Native.Nat.{◌-◌}
-use Rattle.image.specs.declared.walk.Step.TheVariants as step
 use Rattle.loading.proofs.Loads.{Laying}
 use Rattle.loading.proofs.lay.lay_tracks.Given as goal
 

@@ -1,5 +1,4 @@
 use mathlib.Core.Path.{refl}
-use Prim.Native.Nat.{◌-◌}
 use native.Mathlib.Omega.{arith}
 use Rattle.loading.proofs.Lays.{rowing_start, rowing-again, rowing-done, list-first, list-rest, list-none}
 use borrow.Author.Rules.{rules}

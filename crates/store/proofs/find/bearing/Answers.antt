@@ -13,8 +13,8 @@ loop-left-preserved c =
     let e = sym c.row_here.ensures in
     let again = count-again _ _ _ _ _ _ _ c.loop-left.invariant in
     elim c.if-row_here.branch [
-      then-row_here w ↦ again true _ c.loop-left-test.true (e ∙ w.if-row_here.true) w.found-is
-    | else-row_here w ↦ again false _ c.loop-left-test.true (e ∙ w.if-row_here.false) (omega (arith, w.found-is))
+      | then-row_here w ↦ again true _ c.loop-left-test.true (e ∙ w.if-row_here.true) w.found-is
+      | else-row_here w ↦ again false _ c.loop-left-test.true (e ∙ w.if-row_here.false) (omega (arith, w.found-is))
     ]
 
 pub returns : goal.returns

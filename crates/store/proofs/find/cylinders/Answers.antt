@@ -23,8 +23,8 @@ loop-left-preserved c =
     let s = c.byte in
     cylinder-again _ _ _ _ _ c.loop-left.invariant c.loop-left-test.true _ _ _ _ _ x.ensures.0 x.ensures.1 s.ensures.0 c.byte-in-loop-left.ensures.0
     (elim c.if-byte-eq0.branch [
-      then-byte-eq0 w ↦ inl (w.if-byte-eq0.true, (w.c0-is ∙ w.greater-c0.ensures, w.c1-is))
-    | else-byte-eq0 w ↦ inr (w.if-byte-eq0.false, (w.c0-is, w.c1-is ∙ w.greater-c1.ensures))
+      | then-byte-eq0 w ↦ inl (w.if-byte-eq0.true, (w.c0-is ∙ w.greater-c0.ensures, w.c1-is))
+      | else-byte-eq0 w ↦ inr (w.if-byte-eq0.false, (w.c0-is, w.c1-is ∙ w.greater-c1.ensures))
     ])
 
 pub returns : goal.returns

@@ -1,5 +1,4 @@
 use mathlib.Core.Path.{sym, ◌∙◌}
-use Prim.Native.Nat.{◌-◌}
 use native.Mathlib.Omega.{arith}
 use Rattle.store.proofs.Bearings.{hit-none, hit-row, hit-at}
 use Rattle.store.proofs.find.first_sector.Goals as goal

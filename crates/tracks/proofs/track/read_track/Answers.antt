@@ -1,6 +1,5 @@
 use mathlib.Core.Path.{sym, ◌∙◌}
 use Rattle.tracks.proofs.Tracks.{track-short, track-other, track-body}
-use borrow.Author.Rules.{rules}
 use Rattle.tracks.proofs.track.read_track.Goals as goal
 
 pub returns-in-Refused : goal.returns-in-Refused

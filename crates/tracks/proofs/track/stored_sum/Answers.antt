@@ -1,6 +1,5 @@
 use mathlib.Core.Path.{ap}
 use Rattle.tracks.specs.declared.track.Row.{Row}
-use Prim.Native.Nat.{◌-◌}
 use native.Mathlib.Omega.{arith}
 use Rattle.tracks.proofs.Tracks.{sum-start, sum-again, sum_done}
 use Rattle.tracks.proofs.track.stored_sum.Goals as goal
