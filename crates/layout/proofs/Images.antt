@@ -1,6 +1,6 @@
 -- A controller as bytes: which numbers stand where, and which bytes a controller has.
 use mathlib.Core.Path.{◌≡◌, refl, ap, ◌∙◌}
-use Prim.Native.Nat.{ℕ, ◌+◌, ◌-◌, ◌*◌, ◌≤◌}
+use Prim.Native.Nat.{ℕ, ◌≤◌}
 use native.Mathlib.Omega.{arith}
 use mathlib.Core.Bool.{true}
 use mathlib.Core.List.{List, [], ◌++◌}
@@ -9,7 +9,7 @@ use lib.Dec.{leb}
 use borrow.Author.Tests.{eq-eqb, eqb-true, le-leb}
 use Rattle.buffer.specs.Over.{over}
 use Rattle.buffer.proofs.Overs.{over-over, over-front}
-use Rattle.fields.specs.Bytes.{byte_at, number_at}
+use Rattle.fields.specs.Bytes.{byte_at}
 use Rattle.fields.proofs.Tests.{and-fst}
 use Rattle.registers.specs.declared.regs.Regs.{Regs}
 use Rattle.layout.specs.Layout.{controller_length, command_for, reading_for, state_for, numbers_for, held_at, formed}

@@ -15,17 +15,15 @@ use Rattle.fields.specs.declared.refusal.Refusal.TheVariants.{BadController, Bad
 use Rattle.fields.proofs.Tests.{never}
 use Rattle.store.specs.Store.{room_of, transfer_room}
 use Rattle.store.specs.declared.answer.Done.{Done}
-use Rattle.store.specs.declared.answer.Done.TheVariants as finished
 use Rattle.store.proofs.Checks.{transfer-in}
 use Rattle.codes.specs.declared.command.Command.{Command}
 use Rattle.codes.specs.Table.{command_of, bytes_for}
 use Rattle.registers.specs.declared.regs.Regs.{Regs}
-use Rattle.registers.specs.declared.regs.Byte.TheVariants as byte
 use Rattle.registers.specs.Boxes.{setting_of, Setting, Rooms, whole_of, Inside, World, Add, Hold, Change, Clear, Finish, Effect, Sent, named, silent, Holds}
 use Rattle.registers.specs.View.{slot_if, rooms_of, slot_of, drives_of, goal_of, writing_of, inside_of, front_of, impossible_in}
 use Rattle.registers.specs.Settle.{regs_taken, held_taken, regs_changed, regs_all, regs_responded, regs_of}
 use Rattle.registers.specs.Calls.{status_read, data_read, motor_set, disk_set}
-use Rattle.registers.proofs.Numbers.{possible, possible-in, whole-most, taken-few, count-few}
+use Rattle.registers.proofs.Numbers.{possible-in, whole-most, taken-few, count-few}
 use Rattle.registers.proofs.Kept.{lawful-so, so-lawful, lawful-wider, kept-status, kept_read, kept-motor, kept-disk, kept-part, kept-last, kept-held, kept-ended, kept-changes, kept-response}
 use Rattle.registers.proofs.Seen.{status-seen, read-seen, motor-seen, disk-seen, motor-told, track-told}
 use Rattle.commands.specs.Commands.{obeyed, written}

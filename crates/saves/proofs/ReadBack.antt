@@ -8,7 +8,7 @@ use lib.ListN.{length, take}
 use lib.Dec.{leb}
 use borrow.Author.Tests.{eq-eqb}
 use Rattle.fields.specs.Bytes.{with_bit}
-use Rattle.fields.specs.Refusals.{Result, good, need, after}
+use Rattle.fields.specs.Refusals.{Result, good, need}
 use Rattle.fields.specs.Model.{size_of, total, Sector, Track, Disk}
 use Rattle.fields.specs.declared.id.SectorId.{SectorId}
 use Rattle.fields.specs.declared.refusal.Refusal.TheVariants.{NoTransferRoom}

@@ -6,20 +6,20 @@ use mathlib.Core.List.{List, [], ◌∷◌, ◌++◌}
 use lib.ListN.{replicate}
 use Rattle.fields.specs.Capacities.{most_data, most_transfer}
 use Rattle.fields.specs.Refusals.{good}
-use Rattle.fields.specs.Model.{size_of, Sector, Track, Disk, total}
+use Rattle.fields.specs.Model.{size_of, Track, Disk, total}
 use Rattle.fields.specs.declared.id.SectorId.{SectorId}
 use Rattle.tracks.specs.Rows.{ids_from}
 use Rattle.store.specs.Find.{find_from}
 use Rattle.store.specs.Search.{sector_at, match_at, sector_by_index, by_index, run_from, read_at}
 use Rattle.store.specs.Store.{contents}
-use Rattle.store.specs.Fresh.{blank, blanks, formatted}
+use Rattle.store.specs.Fresh.{blanks, formatted}
 use Rattle.store.specs.Calls.{within, has_of}
 use Rattle.store.specs.declared.answer.Has.TheVariants.{Yes}
 use Rattle.disk.specs.Change.{change, saved, set_track}
 use Rattle.codes.specs.Table.{mask_rows, rows, command_by, command_of}
 use Rattle.registers.specs.Boxes.{rust_machine, Holds, Empty, Slot, new_world, named, taken, changed, all_changed, put_in, responded, silent, serves}
 use Rattle.registers.specs.Ports.{change_disk}
-use Rattle.commands.specs.Commands.{missing, seek_if, served_as, read_data, read_reply, start_at, write_data, write_reply, save_at, written_sector, written_into, id_given, read_id, lays_track, format_at_once, format_track, obeyed}
+use Rattle.commands.specs.Commands.{missing, seek_if, served_as, read_data, start_at, write_data, write_reply, save_at, written_sector, written_into, id_given, read_id, lays_track, format_at_once, format_track, obeyed}
 use Rattle.sending.specs.Machine.{command_if, command_byte, data_if, data_byte, byte_for, sent, done, write_port, report_of}
 use Rattle.saves.specs.Events.{Answer, took, Run, run}
 use Rattle.saves.specs.Stages.{Stage, with_world, acted}

@@ -2,7 +2,7 @@
 use mathlib.Core.Path.{◌≡◌, refl, sym, subst, ◌∙◌}
 use mathlib.Core.List.{List, [], ◌∷◌}
 use mathlib.Core.Option.{Option, none, some}
-use Rattle.fields.specs.Refusals.{Result, refused, good, after}
+use Rattle.fields.specs.Refusals.{Result, refused, good}
 use Rattle.fields.specs.Model.{Disk, Each}
 use Rattle.registers.specs.Boxes.{Slot, Inside, Taking, Add, Hold, Change, Clear, MoveTo, Turn, Start, Finish, Sent, taken, changed, all_changed, put_in}
 use Rattle.registers.specs.Ports.{after_status, after_read, set_motor, change_disk}
