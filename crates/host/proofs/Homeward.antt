@@ -3,7 +3,7 @@ use mathlib.Core.Path.{◌≡◌, refl, ap, ◌∙◌}
 use Prim.Native.Nat.{ℕ, ◌*◌, ◌^◌, ◌/◌, ◌≤◌}
 use native.Mathlib.Omega.{arith}
 use mathlib.Core.List.{List}
-use mathlib.Core.Bool.{true, false}
+use mathlib.Core.Bool.{false}
 use lib.ListN.{length, take, drop}
 use lib.Seq.{take_at}
 use borrow.Author.Tests.{le-leb}
@@ -16,7 +16,7 @@ use Rattle.tracks.specs.declared.track.Kind.TheVariants.{Extended}
 use Rattle.image.specs.Dsk.{dsk_of}
 use Rattle.store.specs.Store.{table_length, room_of, table_of, data_of, disk_of}
 use Rattle.store.specs.Calls.{outcome, load_of, penned_to}
-use Rattle.home.specs.Home.{image_for, unwritable, home_of}
+use Rattle.home.specs.Home.{image_for, unwritable}
 use Rattle.home.specs.Calls.{image_in, extent_of, written_as}
 use Rattle.home.specs.Cases.{Twelve}
 use Rattle.home.proofs.Cases.{twelve-each}

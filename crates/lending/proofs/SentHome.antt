@@ -1,6 +1,6 @@
 -- What goes home is what the session left: after any exported calls, `disk_write_image` of the table and data that are lent then writes the disk that the
 -- machine has in its drive.
-use mathlib.Core.Path.{◌≡◌, refl, ap, ◌∙◌}
+use mathlib.Core.Path.{◌≡◌, ap, ◌∙◌}
 use Prim.Native.Nat.{ℕ, ◌^◌, ◌/◌, ◌≤◌}
 use mathlib.Core.Bool.{false}
 use mathlib.Core.List.{List}

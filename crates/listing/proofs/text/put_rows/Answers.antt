@@ -1,4 +1,3 @@
-use Prim.Native.Nat.{◌-◌}
 use native.Mathlib.Omega.{arith}
 use Rattle.listing.proofs.Lines.{left-start, left-done}
 use Rattle.listing.proofs.Tracks.{rows-first, rows_none, rows-room, rows-again}

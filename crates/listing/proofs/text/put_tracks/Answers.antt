@@ -1,5 +1,4 @@
 use mathlib.Core.Path.{refl}
-use Prim.Native.Nat.{◌-◌}
 use Rattle.image.specs.declared.walk.Step.TheVariants as step
 use Rattle.image.proofs.Steps.{says_of, falls}
 use Rattle.listing.proofs.Tracks.{walking_start, walking-never, walking-end, walking-absent, walking-room, walking-track}

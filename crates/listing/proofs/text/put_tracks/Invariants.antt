@@ -1,5 +1,4 @@
 use Prim.Native.Nat.{◌-◌}
-use Rattle.image.specs.declared.walk.Step.TheVariants as step
 use Rattle.listing.proofs.Tracks.{Walking}
 use Rattle.listing.proofs.text.put_tracks.Given as goal
 

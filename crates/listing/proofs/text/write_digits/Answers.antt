@@ -1,4 +1,3 @@
-use Prim.Native.Nat.{◌-◌}
 use borrow.Author.Rules.{rules}
 use Rattle.listing.proofs.Digits.{writing_start, writing-again, writing-done}
 use Rattle.listing.proofs.text.write_digits.Goals as goal

@@ -1,5 +1,4 @@
 -- The loop's invariant: what is left of the number goes before the digits written so far.
-use Prim.Native.Nat.{◌-◌}
 use Rattle.listing.proofs.Digits.{Writing}
 use Rattle.listing.proofs.text.write_digits.Given as goal
 

@@ -1,6 +1,5 @@
 use mathlib.Core.Path.{◌≡◌}
 use native.Mathlib.Omega.{arith}
-use Prim.Native.Nat.{◌-◌}
 use lib.ListN.{length}
 use Rattle.sheet.proofs.Lengths.{known, sheet-size}
 use Rattle.sheet.proofs.Lays.{laid-sheet}
