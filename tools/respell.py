@@ -1,8 +1,8 @@
 #!/usr/bin/env python3
 """respell.py [FOLDER]: turns the names of definitions, lemmas and their variables in crates/ from lower camel case to
-snake case, as today's Rattle spells them: sameBytes becomes same_bytes. Types and facts keep their capitals, and names
-of functions of src/, strings and comments that are no names stay. It was run once, behind port.py, over crates/ and
-then over README.md and docs/. With --list it prints each name with its new one, and where two names fall together.
+snake case, as today's Rattle spells them: sameBytes becomes same_bytes. It goes by the form of a word alone, in texts
+and comments too; types, facts and the names of functions of src/ have another form. It was run once, behind port.py,
+over crates/, README.md and docs/. With --list it prints each name with its new one, and where two names fall together.
 """
 
 import os
