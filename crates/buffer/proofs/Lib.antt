@@ -1,5 +1,4 @@
 -- Laws that more than one proof cites, and those that the crates above use.
 pub mod Overs
 pub mod Sames
-pub mod Loops
 mod Shifts

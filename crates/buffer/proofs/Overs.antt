@@ -7,6 +7,7 @@ use native.Mathlib.Numerals.{add-one}
 use native.Mathlib.Omega.{arith}
 use lib.ListN.{length, take, drop, get_or, set, length-append, length-take, length-drop, take-append-drop}
 use lib.Seq.{length-take-le, take-nil, take-append-le, take-take, take_at, take-add, drop_at, drop-drop, drop-append-add, set_split, get_or-take, get_or-drop, slice, length-slice}
+use borrow.Rule.Slice.PartMut.{put_mid}
 use Rattle.buffer.specs.Over.{over}
 
 -- the part from `from` up to `end`, cut at its start first
@@ -142,3 +143,8 @@ module _ (d : List ℕ) where
       let t : take at (over d at v) ≡ take at d = over-take at v at h (le_refl at) in
       let u : drop (at + length w) (over d at v) ≡ drop (at + length w) d = over-past at v (at + length w) h (omega arith) in
       λ i. t i ++ (w ++ u i)
+
+  -- a part that was lent, and came back as other bytes, is those bytes laid over the whole
+  pub over-mid : (at k : ℕ) (s : List ℕ) → length s ≡ k → put_mid at k d s ≡ over d at s
+  unfolding over
+  over-mid at k s e = ap (λ (x : List ℕ). take at d ++ (s ++ x)) (drop-drop k at d ∙ ap (λ (n : ℕ). drop (at + n) d) (sym e))

@@ -1,10 +1,11 @@
 -- Laws of `same_bytes`: it answers whether two lists are equal.
-use mathlib.Core.Path.{◌≡◌, refl}
-use mathlib.Core.Bool.{Bool, true, false, and-eq-true_iff}
+use mathlib.Core.Path.{◌≡◌, refl, ap}
+use mathlib.Core.Bool.{Bool, true, false, ◌&&◌, and-eq-true_iff}
 use mathlib.Core.List.{List, [], ◌∷◌}
 use Prim.Native.Nat.{ℕ}
 use lib.Dec.{eqb}
 use borrow.Author.Tests.{eqb-true, eq-eqb}
+use Rattle.std.specs.Cmp.Lexicographic.{pointwise}
 use Rattle.buffer.specs.Same.{same_bytes}
 
 -- a list is the same as itself
@@ -31,3 +32,11 @@ not-true-false false h = refl
 -- lists that are not equal are not the same
 pub same-no : (a b : List ℕ) → (a ≡ b → ⊥) → same_bytes a b ≡ false
 same-no a b h = not-true-false (same_bytes a b) (λ e. h (same-eq a b e))
+
+-- what `==` of two slices answers
+pub same_pointwise : (a b : List ℕ) → pointwise eqb a b ≡ same_bytes a b
+unfolding same_bytes
+same_pointwise [] [] = refl
+same_pointwise [] (y ∷ b) = refl
+same_pointwise (x ∷ a) [] = refl
+same_pointwise (x ∷ a) (y ∷ b) = ap (λ (t : Bool). eqb x y && t) (same_pointwise a b)

@@ -1,64 +1,31 @@
--- What the proofs of the moves cite: what a turn of each loop leaves and what its end shows, with d the slice as it came and b as it stands.
+-- What the proofs of the moves cite, with d the slice as it came.
 use mathlib.Core.Path.{◌≡◌, sym, ap, ◌∙◌}
-use mathlib.Core.List.{List, [], ◌∷◌, ◌++◌, append_assoc, append-nil}
-use Prim.Native.Nat.{ℕ, suc, ◌+◌, ◌-◌, ◌≤◌, ◌<◌, min}
-use native.Mathlib.Nat.{le_of_lt}
+use mathlib.Core.List.{List, ◌++◌, append_assoc, append-nil}
+use Prim.Native.Nat.{ℕ, ◌+◌, ◌-◌, ◌≤◌, ◌<◌, min}
 use native.Mathlib.Omega.{arith}
-use lib.ListN.{length, take, drop, get_or, set, length-append, length-take, length-drop}
-use lib.Seq.{length-take-le, get_or-drop, slice, slice-cons, slice_empty, length-slice}
+use lib.ListN.{length, take, drop, replicate, length-append, length-take, length-drop, length-replicate}
+use lib.Seq.{slice, slice_empty, length-slice, length-take-le, paste}
+use borrow.Rule.Slice.PartMut.{put_mid}
 use Rattle.buffer.specs.Over.{over}
-use Rattle.buffer.proofs.Overs.{over-nil, over-same, over-set, over-length, over-before, over-after, over-past, over-slice, over-join, over-over, over-again, slice-drop, slice-join}
-use Rattle.buffer.proofs.Loops.{up_done, copy-turn}
+use Rattle.buffer.proofs.Overs.{over-same, over-length, over-past, over-slice, over-join, over-over, over-again, slice-drop, slice-join, over-mid}
+
+-- a part that was copied to another place is laid there
+pub paste-over : (d : List ℕ) (from to end : ℕ) → from ≤ end → end ≤ length d → paste d to (drop from d) (end - from) ≡ over d to (slice from end d)
+unfolding over
+paste-over d from to end h k =
+    append_assoc (take to d) (take (end - from) (drop from d)) _
+    ∙ (λ i. take to d ++ (slice-drop d from end i ++ drop (to + sym (length-slice from end d k) i) d))
+
+-- a part that was filled
+pub filled-over : (d x : List ℕ) (at n k v m : ℕ) → x ≡ replicate m v → m ≡ length (take k (drop at d)) → k ≡ n → at + n ≤ length d
+    → put_mid at k d x ≡ over d at (replicate n v)
+filled-over d x at n k v m e f g h =
+    let q : m ≡ n = f ∙ length-take-le k (drop at d) (simp length-drop (omega arith)) ∙ g in
+    over-mid d at k x (ap length e ∙ length-replicate m v ∙ q ∙ sym g) ∙ ap (over d at) (e ∙ ap (λ (i : ℕ). replicate i v) q)
+
+-- ---- blocks that change places, with d the slice as it came and b as it stands
 
 module _ (d b : List ℕ) where
-  -- one more byte is moved down, which was not overwritten yet
-  pub lower-turn : (from to i n : ℕ) → b ≡ over d to (take i (drop from d)) → to ≤ from → from + n ≤ length d → i < n
-      → set b (to + i) (get_or b (from + i) 0) ≡ over d to (take (i + 1) (drop from d))
-  lower-turn from to i n e h k l =
-      let s : List ℕ = drop from d in
-      let m : i < length s = simp length-drop (omega arith) in
-      let t : length (take i s) ≡ i = length-take-le i s (le_of_lt m) in
-      let g : get_or b (from + i) 0 ≡ get_or s i 0 =
-      ap (λ (x : List ℕ). get_or x (from + i) 0) e
-      ∙ over-after d to (take i s) (from + i) 0 (omega arith) (omega arith)
-      ∙ sym (get_or-drop from d i 0) in
-      ap (set b (to + i)) g ∙ copy-turn d b to s i e (omega (arith, length-drop from d)) m
-
-  -- all bytes are moved down
-  pub lower-done : (from to i n : ℕ) → b ≡ over d to (take i (drop from d)) → i ≤ n → n ≤ i → b ≡ over d to (take n (drop from d))
-  lower-done from = up_done d b (λ (m : ℕ). take m (drop from d))
-
-  -- what `lower` leaves, in `shift`'s terms
-  pub lower-slice : (from to end : ℕ) → b ≡ over d to (take (end - from) (drop from d)) → b ≡ over d to (slice from end d)
-  lower-slice from to end e = e ∙ ap (over d to) (slice-drop d from end)
-
-  -- one more byte is moved up, which was not overwritten yet
-  pub raise-turn : (from to end i : ℕ) → b ≡ over d (to + i) (slice (from + i) end d)
-      → 0 < i → from ≤ to → from + i ≤ end → end ≤ length d → to + (end - from) ≤ length d
-      → set b (to + (i - 1)) (get_or b (from + (i - 1)) 0) ≡ over d (to + (i - 1)) (slice (from + (i - 1)) end d)
-  raise-turn from to end i e p h k m n =
-      let s : List ℕ = slice (from + i) end d in
-      let v : ℕ = get_or b (from + (i - 1)) 0 in
-      let l : length s ≡ end - (from + i) = length-slice (from + i) end d m in
-      let room : to + (i - 1) < length (over d (to + i) s) = omega (arith, over-length d (to + i) s (omega arith)) in
-      let g : v ≡ get_or d (from + (i - 1)) 0 =
-      ap (λ (x : List ℕ). get_or x (from + (i - 1)) 0) e ∙ over-before d (to + i) s (from + (i - 1)) 0 (omega arith) (omega arith) in
-      let q : suc (from + (i - 1)) ≡ from + i = omega arith in
-      let c : slice (from + (i - 1)) end d ≡ get_or d (from + (i - 1)) 0 ∷ s =
-      slice-cons (from + (i - 1)) end d 0 (omega arith) m ∙ ap (λ (j : ℕ). get_or d (from + (i - 1)) 0 ∷ slice j end d) q in
-      ap (λ (x : List ℕ). set x (to + (i - 1)) v) e
-      ∙ over-set (over d (to + i) s) (to + (i - 1)) v room
-      ∙ over-join d (to + (i - 1)) (v ∷ []) s (to + i) (omega arith) (omega arith)
-      ∙ ap (λ (x : ℕ). over d (to + (i - 1)) (x ∷ s)) g
-      ∙ ap (over d (to + (i - 1))) (sym c)
-
-  -- all bytes are moved up
-  pub raise-done : (from to end i : ℕ) → b ≡ over d (to + i) (slice (from + i) end d) → i ≤ 0 → b ≡ over d to (slice from end d)
-  raise-done from to end i e h =
-      let q : to + i ≡ to = omega arith in
-      let r : from + i ≡ from = omega arith in
-      e ∙ (λ k. over d (q k) (slice (r k) end d))
-
   -- the first block has moved up by the second's length, and the second, kept in k, is laid before it
   pub hop-done : (e c k : List ℕ) (a m n : ℕ) → k ≡ over c 0 (take (n - m) (drop m d)) → e ≡ over d (a + (n - m)) (slice a m d) → b ≡ over e a (take (n - m) k)
       → a ≤ m → m ≤ n → n ≤ length d → b ≡ over d a (slice m n d ++ slice a m d)
@@ -95,19 +62,8 @@ module _ (d b : List ℕ) where
 
   -- the whole second block stands before the first
   pub exchange-done : (a m n mid : ℕ) → b ≡ over d a (slice m mid d ++ slice a m d) → mid ≤ n → n ≤ mid → b ≡ over d a (slice m n d ++ slice a m d)
-  exchange-done a m n mid = up_done d b (λ (j : ℕ). slice m j d ++ slice a m d) a mid n
-
-module _ (d : List ℕ) (from to end : ℕ) (h : from ≤ end) where
-  -- a move up starts with nothing moved
-  pub raise-start : d ≡ over d (to + (end - from)) (slice (from + (end - from)) end d)
-  raise-start =
-      let q : end ≡ from + (end - from) = omega arith in
-      sym (over-nil d (to + (end - from)))
-      ∙ ap (over d (to + (end - from))) (sym (slice_empty end d) ∙ ap (λ (k : ℕ). slice k end d) q)
-
-  -- a move to the same place changes nothing
-  pub shift-still : end ≤ length d → to ≡ from → d ≡ over d to (slice from end d)
-  shift-still k e = sym (over-same d from end h k) ∙ ap (λ (n : ℕ). over d n (slice from end d)) (sym e)
+  exchange-done a m n mid e h k =
+      let q : mid ≡ n = omega arith in e ∙ ap (λ (j : ℕ). over d a (slice m j d ++ slice a m d)) q
 
 module _ (d : List ℕ) (a m n : ℕ) (h : a ≤ m) (k : m ≤ n) (l : n ≤ length d) where
   -- an exchange starts with nothing moved

@@ -7,18 +7,14 @@ ghost use Rattle.std.specs.Prelude.{◌≡◌, ◌+◌, ◌≤◌, length, take,
 ghost use Rattle.buffer.specs.Over.{over};
 ghost use Rattle.buffer.specs.Same.{same_bytes};
 
-pub use moves::{exchange, least, shift};
+pub use moves::{exchange, shift};
 
 // Lays `src` over `dst` from index `at`.
 pub fn copy_in(dst: &mut [u8], at: usize, src: &[u8])
     requires { at + length src.now ≤ length dst.old }
     ensures { dst.new ≡ over dst.old at src.now }
 {
-    let mut i = 0;
-    while i < src.len() {
-        dst[at + i] = src[i];
-        i += 1;
-    }
+    dst[at..at + src.len()].copy_from_slice(src);
 }
 
 // Writes `value` at `count` places from index `at`.
@@ -26,38 +22,21 @@ pub fn fill(dst: &mut [u8], at: usize, count: usize, value: u8)
     requires { at + count ≤ length dst.old }
     ensures { dst.new ≡ over dst.old at (replicate count value) }
 {
-    let mut i = 0;
-    while i < count {
-        dst[at + i] = value;
-        i += 1;
-    }
+    dst[at..at + count].fill(value);
 }
 
 // Whether two slices hold the same bytes.
 pub fn same(a: &[u8], b: &[u8]) -> bool
     ensures { result ≡ same_bytes a.now b.now }
 {
-    if a.len() != b.len() {
-        return false;
-    }
-    let mut alike = true;
-    let mut i = 0;
-    while i < a.len() {
-        alike = alike & (a[i] == b[i]);
-        i += 1;
-    }
-    alike
+    a == b
 }
 
 // Everything from `from` on, which is nothing where the slice ends first.
 pub fn tail<'a>(s: &'a [u8], from: usize) -> &'a [u8]
     ensures { result.now ≡ drop from s.now }
 {
-    let end = s.len();
-    if end <= from {
-        return &s[end..];
-    }
-    &s[from..]
+    &s[from.min(s.len())..]
 }
 
 // The `count` bytes from `from`, fewer where the slice ends first.
@@ -65,8 +44,5 @@ pub fn part<'a>(s: &'a [u8], from: usize, count: usize) -> &'a [u8]
     ensures { result.now ≡ take count (drop from s.now) }
 {
     let rest = tail(s, from);
-    if rest.len() <= count {
-        return rest;
-    }
-    &rest[..count]
+    &rest[..count.min(rest.len())]
 }

@@ -1,55 +1,17 @@
 // Moving bytes inside a slice: a part to another place, and two neighbouring blocks that change places.
-ghost use Rattle.std.specs.Prelude.{◌≡◌, ◌+◌, ◌-◌, ◌≤◌, min, ◌++◌, length, take, drop};
+ghost use Rattle.std.specs.Prelude.{◌≡◌, ◌+◌, ◌-◌, ◌≤◌, ◌++◌, length};
 ghost use Rattle.std.proofs.Math.Seq.{slice};
 ghost use Rattle.buffer.specs.Over.{over};
 
 // How many bytes `exchange` keeps aside at a time.
 const CHUNK: usize = 8192;
 
-// Moves `count` bytes from `from` down to `to`, lowest first.
-fn lower(buf: &mut [u8], from: usize, to: usize, count: usize)
-    requires { (to ≤ from) × (from + count ≤ length buf.old) }
-    ensures { buf.new ≡ over buf.old to (take count (drop from buf.old)) }
-{
-    let mut i = 0;
-    while i < count {
-        buf[to + i] = buf[from + i];
-        i += 1;
-    }
-}
-
-// Moves the bytes of [from, end) up to `to`, highest first.
-fn raise(buf: &mut [u8], from: usize, to: usize, end: usize)
-    requires { (from ≤ to) × ((from ≤ end) × ((end ≤ length buf.old) × (to + (end - from) ≤ length buf.old))) }
-    ensures { buf.new ≡ over buf.old to (slice from end buf.old) }
-{
-    let mut i = end - from;
-    while 0 < i {
-        i -= 1;
-        buf[to + i] = buf[from + i];
-    }
-}
-
 // Moves the bytes of [from, end) to `to`, up or down.
 pub fn shift(buf: &mut [u8], from: usize, to: usize, end: usize)
     requires { (from ≤ end) × ((end ≤ length buf.old) × (to + (end - from) ≤ length buf.old)) }
     ensures { buf.new ≡ over buf.old to (slice from end buf.old) }
 {
-    if to == from {
-        return;
-    }
-    if to < from {
-        lower(buf, from, to, end - from);
-        return;
-    }
-    raise(buf, from, to, end);
-}
-
-// The lesser of two numbers.
-pub fn least(a: usize, b: usize) -> usize
-    ensures { result ≡ min a b }
-{
-    if a < b { a } else { b }
+    buf.copy_within(from..end, to);
 }
 
 // Swaps the neighbouring blocks [a, m) and [m, b), of which the second fits `chunk`.
@@ -64,7 +26,8 @@ fn hop(buf: &mut [u8], a: usize, m: usize, b: usize, chunk: &mut [u8])
     crate::copy_in(buf, a, &chunk[..count]);
 }
 
-// Swaps the neighbouring blocks [a, m) and [m, b).
+// Swaps the neighbouring blocks [a, m) and [m, b), a chunk of the second at a time: `rotate_left` takes three times as long
+// (docs/SPEED.md).
 pub fn exchange(buf: &mut [u8], a: usize, m: usize, b: usize)
     requires { (a ≤ m) × ((m ≤ b) × (b ≤ length buf.old)) }
     ensures { buf.new ≡ over buf.old a (slice m b buf.old ++ slice a m buf.old) }
@@ -80,7 +43,7 @@ pub fn exchange(buf: &mut [u8], a: usize, m: usize, b: usize)
     let mut low = a;
     let mut mid = m;
     while mid < b {
-        let t = least(b - mid, CHUNK);
+        let t = (b - mid).min(CHUNK);
         hop(buf, low, mid, mid + t, chunk);
         low += t;
         mid += t;

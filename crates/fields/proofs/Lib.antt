@@ -2,3 +2,4 @@
 pub mod Tests
 pub mod Sizes
 pub mod Readers
+pub mod Exits

@@ -1,26 +1,20 @@
 -- What a reader answers, from the test that led there.
-use mathlib.Core.Path.{◌≡◌, refl, sym, ap, ◌∙◌}
-use Prim.Native.Nat.{ℕ, ◌+◌, ◌-◌, ◌*◌, ◌≤◌, ◌<◌}
+use mathlib.Core.Path.{◌≡◌, refl, ap, ◌∙◌}
+use Prim.Native.Nat.{ℕ, ◌+◌, ◌*◌, ◌≤◌, ◌<◌}
 use native.Mathlib.Omega.{arith}
 use mathlib.Core.List.{List}
 use mathlib.Core.Bool.{Bool, true, false, cond}
 use lib.ListN.{length, take, drop, get_or-eq_default}
-use lib.Dec.{leb, ltb}
-use borrow.Author.Tests.{lt-ltb, le-ltb, lt-leb, le-leb, ltb-true, ltb-false}
+use lib.Dec.{eqb, leb}
+use borrow.Author.Tests.{lt-leb, le-leb, leb-true, leb-false}
 use Rattle.fields.specs.Bytes.{byte_at, number_at, text_at, read_number, read_string}
 use Rattle.buffer.specs.Same.{same_bytes}
+use Rattle.buffer.proofs.Sames.{same_pointwise}
+use Rattle.std.specs.Cmp.Lexicographic.{pointwise}
 use Rattle.fields.specs.declared.refusal.Refusal.TheVariants.{ShortImage}
-use Rattle.fields.specs.declared.read.Read.TheVariants as read
-use Rattle.fields.specs.declared.read.Text.{Text}
-use Rattle.fields.specs.declared.read.Text.TheVariants as text
-
--- the test of a sum that could wrap, made without it
-pub ltb-sub : (n w at : ℕ) → w ≤ n → ltb (n - w) at ≡ ltb n (at + w)
-ltb-sub n w at h = by_cases (ltb n (at + w)) refl
-  where
-    by_cases : (t : Bool) → ltb n (at + w) ≡ t → ltb (n - w) at ≡ t
-    by_cases true e = let l : n < at + w = ltb-true _ _ e in lt-ltb (n - w) at (omega arith)
-    by_cases false e = let l : at + w ≤ n = ltb-false _ _ e in le-ltb (n - w) at (omega arith)
+use Rattle.std.specs.Prelude.{Result, Ok, Err, is_ok, IsOk, IfErr, ◌↔◌}
+use Rattle.std.proofs.lemmas.Result.{IfErr-at_err}
+use Rattle.fields.specs.declared.refusal.Refusal.{Refusal}
 
 -- a number in one, two and four bytes
 pub number-1 : (b : List ℕ) (at : ℕ) → byte_at b at ≡ number_at 1 b at
@@ -42,47 +36,54 @@ number-4 b at =
     let f : at + 1 + 1 + 1 ≡ at + 2 + 1 = omega arith in
     rw (f, e) (omega arith)
 
--- a reader's two answers: `t` is the test whether the input is short
-module _ (width : ℕ) (b : List ℕ) (at : ℕ) (t : Bool) (e : t ≡ ltb (length b) (at + width)) where
-  pub whole : t ≡ false → at + width ≤ length b
-  whole h = ltb-false (length b) (at + width) (sym e ∙ h)
+-- what `reach` answers
+abbrev pub Reaches : Result (Unit {0}) Refusal → ℕ → List ℕ → ℕ → Type 0
+Reaches r width b at = (IsOk r ↔ (at + width ≤ length b)) × IfErr r (λ why. why ≡ ShortImage)
 
-  pub read_short : t ≡ true → read.Refused ShortImage ≡ read_number width b at
+-- and what a reader answers by it
+module _ (width : ℕ) (b : List ℕ) (at : ℕ) (r : Result (Unit {0}) Refusal) (fits : IsOk r ↔ (at + width ≤ length b)) where
+  short_reach : (why : Refusal) → r ≡ Err why → length b < at + width
+  short_reach why e = by_cases (leb (at + width) (length b)) refl
+    where
+      by_cases : (t : Bool) → leb (at + width) (length b) ≡ t → length b < at + width
+      by_cases true q = absurd (cc (e, fits.1 (leb-true _ _ q)))
+      by_cases false q = leb-false _ _ q
+
+  pub read_short : (why : Refusal) → r ≡ Err why → IfErr r (λ w. w ≡ ShortImage) → Err why ≡ read_number width b at
   unfolding read_number
-  read_short h = let l : length b < at + width = ltb-true (length b) (at + width) (sym e ∙ h) in simp (lt-leb _ _ l)
+  read_short why e s = let l : length b < at + width = short_reach why e in simp (lt-leb _ _ l) (ap Err (IfErr-at_err (λ w. w ≡ ShortImage) e s))
 
-  pub read_whole : (v : ℕ) → t ≡ false → v ≡ number_at width b at → read.Number v ≡ read_number width b at
+  pub read_whole : (u : Unit {0}) (v : ℕ) → r ≡ Ok u → v ≡ number_at width b at → Ok v ≡ read_number width b at
   unfolding read_number
-  read_whole v h q = simp (le-leb _ _ (whole h)) (ap read.Number q)
+  read_whole u v e q = let l : at + width ≤ length b = fits.0 (ap is_ok e) in simp (le-leb _ _ l) (ap Ok q)
 
--- a compare's three answers
-module _ (t b : List ℕ) (at : ℕ) (s : Bool) (e : s ≡ ltb (length b) (at + length t)) where
-  pub string-short : s ≡ true → text.Refused ShortImage ≡ read_string t b at
+-- a compare's two answers, likewise
+module _ (t b : List ℕ) (at : ℕ) (r : Result (Unit {0}) Refusal) (fits : IsOk r ↔ (at + length t ≤ length b)) where
+  pub string-short : (why : Refusal) → r ≡ Err why → IfErr r (λ w. w ≡ ShortImage) → Err why ≡ read_string t b at
   unfolding read_string
-  string-short h = let l : length b < at + length t = ltb-true (length b) (at + length t) (sym e ∙ h) in simp (lt-leb _ _ l)
+  string-short why e s =
+      let l : length b < at + length t = short_reach (length t) b at r fits why e in
+      simp (lt-leb _ _ l) (ap Err (IfErr-at_err (λ w. w ≡ ShortImage) e s))
 
-  pub string-whole : (v : Bool) (p : List ℕ) (q : Bool) → s ≡ false → p ≡ take (length t) (drop at b) → q ≡ same_bytes p t → q ≡ v
-      → cond v text.Same text.Other ≡ read_string t b at
+  pub string-whole : (u : Unit {0}) (p : List ℕ) (q : Bool) → r ≡ Ok u → p ≡ take (length t) (drop at b) → q ≡ pointwise eqb p t
+      → Ok q ≡ read_string t b at
   unfolding read_string text_at
-  string-whole v p q h ep eq ev =
-      let y : same_bytes (take (length t) (drop at b)) t ≡ v = cc in
-      simp (le-leb _ _ (whole (length t) b at s e h), y)
+  string-whole u p q e ep eq =
+      let l : at + length t ≤ length b = fits.0 (ap is_ok e) in
+      simp (le-leb _ _ l) (ap Ok (eq ∙ same_pointwise p t ∙ ap (λ (x : List ℕ). same_bytes x t) ep))
 
--- and what each of them says
-abbrev pub Told : List ℕ → List ℕ → ℕ → Text → Type 0
-Told t b at (text.Refused why) = (leb (at + length t) (length b) ≡ false) × (why ≡ ShortImage)
-Told t b at text.Same = (leb (at + length t) (length b) ≡ true) × (text_at t b at ≡ true)
-Told t b at text.Other = (leb (at + length t) (length b) ≡ true) × (text_at t b at ≡ false)
+-- what each answer of a compare says
+abbrev pub Told : List ℕ → List ℕ → ℕ → Result Bool Refusal → Type 0
+Told t b at (Err why) = (leb (at + length t) (length b) ≡ false) × (why ≡ ShortImage)
+Told t b at (Ok here) = (leb (at + length t) (length b) ≡ true) × (text_at t b at ≡ here)
 
 answered : (t b : List ℕ) (at : ℕ) → Told t b at (read_string t b at)
 unfolding read_string
-answered t b at = whichever (leb (at + length t) (length b)) refl (text_at t b at) refl
+answered t b at = whichever (leb (at + length t) (length b)) refl
   where
-    whichever : (l : Bool) → leb (at + length t) (length b) ≡ l → (m : Bool) → text_at t b at ≡ m
-        → Told t b at (cond l (cond m text.Same text.Other) (text.Refused ShortImage))
-    whichever true p true q = (p, q)
-    whichever true p false q = (p, q)
-    whichever false p m q = (p, refl)
+    whichever : (l : Bool) → leb (at + length t) (length b) ≡ l → Told t b at (cond l (Ok (text_at t b at)) (Err ShortImage))
+    whichever true p = (p, refl)
+    whichever false p = (p, refl)
 
-pub told : (t b : List ℕ) (at : ℕ) (x : Text) → read_string t b at ≡ x → Told t b at x
+pub told : (t b : List ℕ) (at : ℕ) (x : Result Bool Refusal) → read_string t b at ≡ x → Told t b at x
 told t b at x e = rw e at (answered t b at)

@@ -3,8 +3,9 @@ use mathlib.Core.Path.{◌≡◌, refl, sym, ◌∙◌}
 use Prim.Native.Nat.{ℕ}
 use native.Mathlib.Omega.{arith}
 use mathlib.Core.Bool.{Bool, true, false, ◌&&◌}
-use Rattle.fields.specs.Refusals.{Result, good, need}
+use Rattle.fields.specs.Refusals.{need}
 use Rattle.fields.specs.declared.refusal.Refusal.{Refusal}
+use Rattle.std.specs.Prelude.{Result, Ok}
 
 -- facts that contradict each other, from which congruence closure shows this, are never met
 pub never : {A : Type 0} → ◌≡◌ {A = ℕ} 0 1 → A
@@ -19,7 +20,7 @@ and-snd true y e = e
 and-snd false y e = cc
 
 -- where a test did not refuse it has passed, and what follows it is good
-pub need-good : {A : Type 0} (v : Bool) (why : Refusal) (next : Result A) (a : A) → need v why next ≡ good a → (v ≡ true) × (next ≡ good a)
+pub need-good : {A : Type 0} (v : Bool) (why : Refusal) (next : Result A Refusal) (a : A) → need v why next ≡ Ok a → (v ≡ true) × (next ≡ Ok a)
 need-good true why next a e = (refl, e)
 need-good false why next a e = never (cc)
 

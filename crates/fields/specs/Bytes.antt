@@ -1,11 +1,8 @@
 -- Bytes and numbers by place, and what the byte readers answer (01, "Modules in port order", 1).
-use Rattle.std.specs.Prelude.{ℕ, zero, suc, ◌+◌, ◌-◌, ◌*◌, ◌/◌, ◌%◌, List, Bool, cond, length, get_or, take, drop, eqb, leb}
+use Rattle.std.specs.Prelude.{ℕ, zero, suc, ◌+◌, ◌-◌, ◌*◌, ◌/◌, ◌%◌, List, Bool, cond, length, get_or, take, drop, eqb, leb, Result, Ok, Err}
 use Rattle.buffer.specs.Same.{same_bytes}
 use Rattle.fields.specs.declared.refusal.Refusal.TheVariants.{ShortImage}
-use Rattle.fields.specs.declared.read.Read.{Read}
-use Rattle.fields.specs.declared.read.Read.TheVariants as read
-use Rattle.fields.specs.declared.read.Text.{Text}
-use Rattle.fields.specs.declared.read.Text.TheVariants as text
+use Rattle.fields.specs.declared.refusal.Refusal.{Refusal}
 
 -- the byte at a place, 0 past the end
 abbrev pub byte_at : List ℕ → ℕ → ℕ
@@ -28,9 +25,9 @@ unfoldable pub text_at : List ℕ → List ℕ → ℕ → Bool
 text_at t b at = same_bytes (take (length t) (drop at b)) t
 
 -- `read_u8`, `read_u16` and `read_u32`: the number in 1, 2 or 4 bytes; a short input is 3
-unfoldable pub read_number : ℕ → List ℕ → ℕ → Read
-read_number width b at = cond (leb (at + width) (length b)) (read.Number (number_at width b at)) (read.Refused ShortImage)
+unfoldable pub read_number : ℕ → List ℕ → ℕ → Result ℕ Refusal
+read_number width b at = cond (leb (at + width) (length b)) (Ok (number_at width b at)) (Err ShortImage)
 
 -- `read_string`, as a compare of bytes; a short input is 3
-unfoldable pub read_string : List ℕ → List ℕ → ℕ → Text
-read_string t b at = cond (leb (at + length t) (length b)) (cond (text_at t b at) text.Same text.Other) (text.Refused ShortImage)
+unfoldable pub read_string : List ℕ → List ℕ → ℕ → Result Bool Refusal
+read_string t b at = cond (leb (at + length t) (length b)) (Ok (text_at t b at)) (Err ShortImage)

@@ -1,9 +1,8 @@
--- The refusal numbers of documents 01 and 02, and an answer that may be a refusal.
-use Rattle.std.specs.Prelude.{ℕ, Bool, true, false}
+-- The refusal numbers of documents 01 and 02, and how an answer goes on where there is no refusal.
+use Rattle.std.specs.Prelude.{ℕ, Bool, true, false, Result, Ok, Err}
 use Rattle.fields.specs.declared.refusal.Refusal.{Refusal}
 use Rattle.fields.specs.declared.refusal.Refusal.TheVariants.{BadController, BadStore, ShortImage, NotAnImage, NotATrack, TooManyTracks}
-use Rattle.fields.specs.declared.refusal.Refusal.TheVariants.{TooManySectors, NoRoom, NoTransferRoom, LongInput}
-use Rattle.fields.specs.declared.refusal.Refusal.TheVariants.{BadSheet, NoImage, ShortBuffer}
+use Rattle.fields.specs.declared.refusal.Refusal.TheVariants.{TooManySectors, NoRoom, NoTransferRoom, LongInput, BadSheet, NoImage, ShortBuffer}
 
 -- the table "Refusal numbers" of 01; 11 and 13 of request 2026-01, 12 of 2026-03
 abbrev pub number_of : Refusal → ℕ
@@ -21,17 +20,12 @@ number_of BadSheet = 11
 number_of NoImage = 12
 number_of ShortBuffer = 13
 
--- what is read, or why it is refused
-pub data Result (A : Type 0) : Type 0 where
-  refused : Refusal → Result A
-  good : A → Result A
-
 -- goes on where the test holds, and refuses where it does not
-abbrev pub need : {A : Type 0} → Bool → Refusal → Result A → Result A
+abbrev pub need : {A : Type 0} → Bool → Refusal → Result A Refusal → Result A Refusal
 need true why next = next
-need false why next = refused why
+need false why next = Err why
 
 -- goes on with what was read
-abbrev pub after : {A B : Type 0} → Result A → (A → Result B) → Result B
-after (refused why) next = refused why
-after (good a) next = next a
+abbrev pub after : {A B : Type 0} → Result A Refusal → (A → Result B Refusal) → Result B Refusal
+after (Err why) next = Err why
+after (Ok a) next = next a

@@ -2,7 +2,7 @@
 ghost use Rattle.std.specs.Prelude.{◌≡◌};
 ghost use Rattle.fields.specs.Model.{size_of, copies};
 
-#[derive(Clone, Copy)]
+#[derive(Clone, Copy, PartialEq, Eq)]
 pub struct SectorId {
     pub c: u8,
     pub h: u8,
@@ -46,7 +46,7 @@ impl SectorId {
     }
 }
 
-// Status register 1. A loaded byte keeps every bit.
+// Status register 1. A loaded byte keeps every bit. It and the next are two types: the names of bits stand with their register (document 01).
 #[derive(Clone, Copy)]
 pub struct St1 {
     pub bits: u8,

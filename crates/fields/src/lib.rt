@@ -8,7 +8,7 @@ mod refusal;
 
 pub use capacity::{DATA, HELD, SECTORS, TRACKS, TRANSFER};
 pub use id::{SectorId, St1, St2, size_of};
-pub use read::{Read, Text, byte, read_string, read_u8, read_u16, read_u32};
+pub use read::{byte, read_string, read_u8, read_u16, read_u32};
 pub use refusal::Refusal;
 
 // For the crates above only: they have a `requires`.

@@ -1,21 +1,9 @@
 // The byte readers: little-endian numbers and a text at a place of a slice. A short input is refused.
-ghost use Rattle.std.specs.Prelude.{◌≡◌, ◌+◌, ◌<◌, ◌^◌, length, ltb};
+ghost use Rattle.std.specs.Prelude.{◌≡◌, ◌+◌, ◌<◌, ◌≤◌, ◌↔◌, ◌^◌, length, IsOk, IfErr};
+ghost use Rattle.fields.specs.declared.refusal.Refusal.TheVariants.{ShortImage};
 ghost use Rattle.fields.specs.Bytes.{byte_at, number_at, read_number, read_string};
 
 use crate::refusal::Refusal;
-
-#[derive(Clone, Copy)]
-pub enum Read {
-    Refused(Refusal),
-    Number(u32),
-}
-
-#[derive(Clone, Copy)]
-pub enum Text {
-    Refused(Refusal),
-    Same,
-    Other,
-}
 
 // The byte at a place as a number, 0 past the end.
 pub fn byte(s: &[u8], at: usize) -> usize
@@ -46,57 +34,46 @@ pub fn word(s: &[u8], at: usize) -> usize
     byte(s, at)
 }
 
-// Whether the slice ends before `width` bytes from `at`.
-fn short(s: &[u8], at: usize, width: usize) -> bool
-    ensures { result ≡ ltb (length s.now) (at + width) }
+// Refuses a slice that ends before `width` bytes from `at`.
+fn reach(s: &[u8], at: usize, width: usize) -> Result<(), Refusal>
+    ensures fits { IsOk result ↔ (at + width ≤ length s.now) }
+    ensures short { IfErr result (λ why. why ≡ ShortImage) }
 {
-    if s.len() < width {
-        return true;
+    if s.len() < width || s.len() - width < at {
+        return Err(Refusal::ShortImage);
     }
-    s.len() - width < at
+    Ok(())
 }
 
-pub fn read_u8(s: &[u8], at: usize) -> Read
+// A reader for each width, as document 01 names them; each answers a number of its own type.
+
+pub fn read_u8(s: &[u8], at: usize) -> Result<u8, Refusal>
     ensures { result ≡ read_number 1 s.now at }
 {
-    if short(s, at, 1) {
-        return Read::Refused(Refusal::ShortImage);
-    }
-    let value = byte(s, at);
-    Read::Number(value as u32)
+    reach(s, at, 1)?;
+    Ok(s[at])
 }
 
-pub fn read_u16(s: &[u8], at: usize) -> Read
+pub fn read_u16(s: &[u8], at: usize) -> Result<u16, Refusal>
     ensures { result ≡ read_number 2 s.now at }
 {
-    if short(s, at, 2) {
-        return Read::Refused(Refusal::ShortImage);
-    }
-    let value = word(s, at);
-    Read::Number(value as u32)
+    reach(s, at, 2)?;
+    Ok(word(s, at) as u16)
 }
 
-pub fn read_u32(s: &[u8], at: usize) -> Read
+pub fn read_u32(s: &[u8], at: usize) -> Result<u32, Refusal>
     ensures { result ≡ read_number 4 s.now at }
 {
-    if short(s, at, 4) {
-        return Read::Refused(Refusal::ShortImage);
-    }
+    reach(s, at, 4)?;
     let low = word(s, at);
     let high = word(s, at + 2);
-    Read::Number((low + 65536 * high) as u32)
+    Ok((low + 65536 * high) as u32)
 }
 
 // Compares the bytes at a place with a text.
-pub fn read_string(s: &[u8], at: usize, text: &[u8]) -> Text
+pub fn read_string(s: &[u8], at: usize, text: &[u8]) -> Result<bool, Refusal>
     ensures { result ≡ read_string text.now s.now at }
 {
-    if short(s, at, text.len()) {
-        return Text::Refused(Refusal::ShortImage);
-    }
-    let here = buffer::part(s, at, text.len());
-    if buffer::same(here, text) {
-        return Text::Same;
-    }
-    Text::Other
+    reach(s, at, text.len())?;
+    Ok(buffer::part(s, at, text.len()) == text)
 }

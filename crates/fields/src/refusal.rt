@@ -2,7 +2,7 @@
 ghost use Rattle.std.specs.Prelude.{◌≡◌};
 ghost use Rattle.fields.specs.Refusals.{number_of};
 
-#[derive(Clone, Copy)]
+#[derive(Clone, Copy, PartialEq, Eq)]
 pub enum Refusal {
     BadController,
     BadStore,
@@ -20,7 +20,7 @@ pub enum Refusal {
 }
 
 impl Refusal {
-    // The number by which the documents know a refusal.
+    // The number by which the documents know a refusal, case by case, as document 01 has its definition.
     pub fn number(self) -> u8
         ensures { result ≡ number_of self }
     {

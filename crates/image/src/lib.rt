@@ -4,4 +4,4 @@
 
 mod walk;
 
-pub use walk::{Opened, Step, Surveyed, Totals, Walk, open, survey};
+pub use walk::{Step, Totals, Walk, open, survey};

@@ -1,24 +1,10 @@
 // The walk over an image: what it holds in all, and then each track.
 ghost use Rattle.std.specs.Prelude.{◌≡◌, ◌≤◌, ◌<◌, drop};
 ghost use Rattle.image.specs.Dsk.{image_kind, header_of, entries, table_end, entry_of};
-ghost use Rattle.image.specs.Calls.{signature_of, opened_of, step_of, tracks_left, survey_from, survey_of};
+ghost use Rattle.image.specs.Calls.{opened_of, step_of, tracks_left, totals_from, survey_of};
 
-use fields::{Refusal, Text, byte, read_string, word};
-use tracks::{Block, Head, Kind, read_track};
-
-// What the signature of an image names.
-#[derive(Clone, Copy)]
-enum Signature {
-    Refused(Refusal),
-    Of(Kind),
-}
-
-// A track's place in the table of an image: not there, or so many bytes.
-#[derive(Clone, Copy)]
-enum Entry {
-    Absent,
-    Size(u16),
-}
+use fields::{Refusal, byte, read_string, word};
+use tracks::{Head, Kind, read_track};
 
 // How far a walk has come: the next entry, how many there are, and where the next track stands.
 #[derive(Clone, Copy)]
@@ -30,47 +16,32 @@ pub struct Walk {
 }
 
 // How much an image holds.
-#[derive(Clone, Copy)]
+#[derive(Clone, Copy, PartialEq, Eq)]
 pub struct Totals {
     pub tracks: usize,
     pub sectors: usize,
     pub bytes: usize,
 }
 
-// What an image that is good holds, and the walk over it, at its first entry.
-#[derive(Clone, Copy)]
-pub enum Surveyed {
-    Refused(Refusal),
-    Good(Totals, Walk),
-}
-
-#[derive(Clone, Copy)]
-pub enum Opened {
-    Refused(Refusal),
-    Ready(Walk),
-}
-
+// What a walk meets: no further entry, one without a track, or a track; and the walk behind it. Three cases, of which none is a refusal.
 #[derive(Clone, Copy)]
 pub enum Step {
-    Refused(Refusal),
     End,
     Absent(Walk),
     Track(Head, Walk),
 }
 
 // The kind that an image's first 12 bytes name.
-fn read_signature(image: &[u8]) -> Signature
-    ensures { result ≡ signature_of (image_kind image.now) }
+fn read_signature(image: &[u8]) -> Result<Kind, Refusal>
+    ensures { result ≡ image_kind image.now }
 {
-    match read_string(image, 0, b"EXTENDED CPC") {
-        Text::Refused(why) => Signature::Refused(why),
-        Text::Same => Signature::Of(Kind::Extended),
-        Text::Other => match read_string(image, 0, b"MV - CPC") {
-            Text::Refused(why) => Signature::Refused(why),
-            Text::Same => Signature::Of(Kind::Normal),
-            Text::Other => Signature::Refused(Refusal::NotAnImage),
-        },
+    if read_string(image, 0, b"EXTENDED CPC")? {
+        return Ok(Kind::Extended);
     }
+    if read_string(image, 0, b"MV - CPC")? {
+        return Ok(Kind::Normal);
+    }
+    Err(Refusal::NotAnImage)
 }
 
 // Where the table of an image's disk block ends.
@@ -85,25 +56,20 @@ fn table_end(kind: Kind, entries: usize) -> usize
 }
 
 // Reads an image's disk block: a walk at the first entry of its table, or why the image is refused.
-pub fn open(image: &[u8]) -> Opened
+pub fn open(image: &[u8]) -> Result<Walk, Refusal>
     ensures { result ≡ opened_of image.now (header_of image.now) }
 {
-    match read_signature(image) {
-        Signature::Refused(why) => Opened::Refused(why),
-        Signature::Of(kind) => {
-            let entries = entries_of(image);
-            let end = table_end(kind, entries);
-            if image.len() < end {
-                return Opened::Refused(Refusal::ShortImage);
-            }
-            Opened::Ready(Walk {
-                kind,
-                entry: 0,
-                entries,
-                at: 0x100,
-            })
-        }
+    let kind = read_signature(image)?;
+    let entries = entries_of(image);
+    if image.len() < table_end(kind, entries) {
+        return Err(Refusal::ShortImage);
     }
+    Ok(Walk {
+        kind,
+        entry: 0,
+        entries,
+        at: 0x100,
+    })
 }
 
 // How many entries the table of an image has: tracks times sides.
@@ -115,18 +81,18 @@ fn entries_of(image: &[u8]) -> usize
     tracks * sides
 }
 
-// How many bytes the track of an entry takes.
-fn entry_of(kind: Kind, image: &[u8], entry: usize) -> Entry
+// How many bytes the track of an entry takes, if there is one.
+fn entry_of(kind: Kind, image: &[u8], entry: usize) -> Option<u16>
     ensures { result ≡ entry_of kind image.now entry }
 {
     match kind {
-        Kind::Normal => Entry::Size(word(image, 0x32) as u16),
+        Kind::Normal => Some(word(image, 0x32) as u16),
         Kind::Extended => {
             let size = byte(buffer::tail(image, 0x34), entry);
             if size == 0 {
-                return Entry::Absent;
+                return None;
             }
-            Entry::Size((256 * size) as u16)
+            Some((256 * size) as u16)
         }
     }
 }
@@ -136,71 +102,54 @@ impl Walk {
     pub fn block<'a>(self, image: &'a [u8]) -> &'a [u8]
         ensures { result.now ≡ drop self.at image.now }
     {
-        let at = self.at;
-        buffer::tail(image, at)
+        buffer::tail(image, self.at)
     }
 
     // Reads the next entry of the table and the track that it stands for.
-    pub fn step(self, image: &[u8]) -> Step
+    pub fn step(self, image: &[u8]) -> Result<Step, Refusal>
         ensures { result ≡ step_of image.now self }
     {
-        let kind = self.kind;
-        let entry = self.entry;
-        let entries = self.entries;
-        let at = self.at;
-        if entries <= entry {
-            return Step::End;
+        if self.entries <= self.entry {
+            return Ok(Step::End);
         }
-        match entry_of(kind, image, entry) {
-            Entry::Absent => Step::Absent(Walk {
-                kind,
-                entry: entry + 1,
-                entries,
-                at,
-            }),
-            Entry::Size(size) => match read_track(kind, self.block(image)) {
-                Block::Refused(why) => Step::Refused(why),
-                Block::Head(head) => Step::Track(
-                    head,
-                    Walk {
-                        kind,
-                        entry: entry + 1,
-                        entries,
-                        at: at + (size as usize),
-                    },
-                ),
+        let rest = Walk {
+            entry: self.entry + 1,
+            ..self
+        };
+        let Some(size) = entry_of(self.kind, image, self.entry) else {
+            return Ok(Step::Absent(rest));
+        };
+        let head = read_track(self.kind, self.block(image))?;
+        Ok(Step::Track(
+            head,
+            Walk {
+                at: self.at + (size as usize),
+                ..rest
             },
-        }
+        ))
     }
 }
 
-// How much the tracks that a walk has still to hand out hold; the walk is handed on.
-fn totals_of(image: &[u8], start: Walk) -> Surveyed
+// How much the tracks that a walk has still to hand out hold.
+fn totals_of(image: &[u8], start: Walk) -> Result<Totals, Refusal>
     requires { start.entries ≤ 65025 }
-    ensures { result ≡ survey_from start (tracks_left image.now start) }
+    ensures { result ≡ totals_from (tracks_left image.now start) }
 {
     let mut walk = start;
-    let mut tracks: usize = 0;
-    let mut sectors: usize = 0;
-    let mut bytes: usize = 0;
+    let mut totals = Totals {
+        tracks: 0,
+        sectors: 0,
+        bytes: 0,
+    };
+    // A step tells that the walk has ended.
     loop {
-        match walk.step(image) {
-            Step::Refused(why) => return Surveyed::Refused(why),
-            Step::End => {
-                return Surveyed::Good(
-                    Totals {
-                        tracks,
-                        sectors,
-                        bytes,
-                    },
-                    start,
-                );
-            }
+        match walk.step(image)? {
+            Step::End => return Ok(totals),
             Step::Absent(rest) => walk = rest,
             Step::Track(head, rest) => {
-                tracks += 1;
-                sectors += head.sectors as usize;
-                bytes += head.stored as usize;
+                totals.tracks += 1;
+                totals.sectors += head.sectors as usize;
+                totals.bytes += head.stored as usize;
                 walk = rest;
             }
         }
@@ -208,11 +157,10 @@ fn totals_of(image: &[u8], start: Walk) -> Surveyed
 }
 
 // Reads an image through: why it is refused, or how much it holds, and the walk over it.
-pub fn survey(image: &[u8]) -> Surveyed
+pub fn survey(image: &[u8]) -> Result<(Totals, Walk), Refusal>
     ensures { result ≡ survey_of image.now }
 {
-    match open(image) {
-        Opened::Refused(why) => Surveyed::Refused(why),
-        Opened::Ready(walk) => totals_of(image, walk),
-    }
+    let walk = open(image)?;
+    let totals = totals_of(image, walk)?;
+    Ok((totals, walk))
 }

@@ -11,10 +11,11 @@ use Rattle.tracks.proofs.Tracks.{down}
 use Rattle.fields.specs.declared.id.SectorId.{SectorId}
 use Rattle.store.specs.Search.{bearing}
 use Rattle.store.specs.Store.{table_length, sectors_at}
-use Rattle.store.specs.Spots.{row_here, sector_spot, bearing_at, hit_of, row_hit}
-use Rattle.store.specs.declared.find.Hit.TheVariants as hit
-use Rattle.store.specs.declared.find.Spot.TheVariants.{Nothing, At}
+use Rattle.store.specs.Spots.{row_here, sector_spot, bearing_at, hit_of, row_hit, hit_at, spot}
 use Rattle.store.proofs.Sums.{down-none}
+use Rattle.std.specs.Prelude.{None}
+use Rattle.store.specs.declared.find.Spot.{Spot}
+use Rattle.store.proofs.Same.{some-same}
 
 -- as many rows bear an ID as sectors
 pub bearing-is : (t b : List ℕ) (id : SectorId) (at place k : ℕ) → bearing_at t id at k ≡ bearing id (sectors_at t b at place k)
@@ -45,30 +46,40 @@ module _ (t : List ℕ) (id : SectorId) (at : ℕ) where
   bearing-none = down-none (λ k. bearing_at t id at k ≡ 0) refl
 
 -- what it knows at its head
-pub record BearingWalk (t : List ℕ) (id : SectorId) (start count found at left : ℕ) : Type 0 where
-  pub inside : at + 8 * left ≤ table_length
-  pub few : found + left ≤ count
-  pub rest : found + bearing_at t id at left ≡ bearing_at t id start count
+pub record BearingWalk (t : List ℕ) (id : SectorId) (start count found k : ℕ) : Type 0 where
+  pub inside : start + 8 * count ≤ table_length
+  pub few : found ≤ k
+  pub rest : found + bearing_at t id (start + 8 * k) (count - k) ≡ bearing_at t id start count
 
 module _ (t : List ℕ) (id : SectorId) (start count : ℕ) where
-  pub count-start : start + 8 * count ≤ table_length → BearingWalk t id start count 0 start count
-  count-start h = record { inside = h; few = omega arith; rest = omega arith }
+  pub count-start : start + 8 * count ≤ table_length → BearingWalk t id start count 0 0
+  count-start h =
+      let e : start + 8 * 0 ≡ start = omega arith in
+      let f : count - 0 ≡ count = omega arith in
+      record { inside = h; few = omega arith; rest = rw (e, f) (omega arith) }
 
-  module _ (found at left : ℕ) (s : BearingWalk t id start count found at left) where
+  module _ (found k : ℕ) (s : BearingWalk t id start count found k) where
     -- a row that bears the ID is counted, and one that does not is not
-    pub count-again : (v : Bool) (n : ℕ) → 0 < left → row_here t id at ≡ v → n ≡ found + cond v 1 0 → BearingWalk t id start count n (at + 8) (left - 1)
+    pub count-again : (v : Bool) (n : ℕ) → k < count → row_here t id (start + 8 * k) ≡ v → n ≡ found + cond v 1 0
+        → BearingWalk t id start count n (k + 1)
     count-again v n h e f = told v e f
       where
-        told : (w : Bool) → row_here t id at ≡ w → n ≡ found + cond w 1 0 → BearingWalk t id start count n (at + 8) (left - 1)
-        told true q g =
-            let z = rw q at (bearing-step t id at left h) in
-            record { inside = omega (arith, s.inside); few = omega (arith, s.few); rest = omega (arith, s.rest) }
-        told false q g =
-            let z = rw q at (bearing-step t id at left h) in
-            record { inside = omega (arith, s.inside); few = omega (arith, s.few); rest = omega (arith, s.rest) }
+        p : start + 8 * k + 8 ≡ start + 8 * (k + 1)
+        p = omega arith
 
-    pub count-done : left ≤ 0 → (found ≡ bearing_at t id start count) × (found ≤ count)
-    count-done h = (omega (arith, s.rest, bearing-none t id at left h), omega (arith, s.few))
+        q : count - k - 1 ≡ count - (k + 1)
+        q = omega arith
+
+        step : bearing_at t id (start + 8 * k) (count - k)
+            ≡ cond (row_here t id (start + 8 * k)) 1 0 + bearing_at t id (start + 8 * (k + 1)) (count - (k + 1))
+        step = rw (← p, ← q) (bearing-step t id (start + 8 * k) (count - k) (omega arith))
+
+        told : (w : Bool) → row_here t id (start + 8 * k) ≡ w → n ≡ found + cond w 1 0 → BearingWalk t id start count n (k + 1)
+        told true y g = let z = rw y at step in record { inside = s.inside; few = omega (arith, s.few); rest = omega (arith, s.rest) }
+        told false y g = let z = rw y at step in record { inside = s.inside; few = omega (arith, s.few); rest = omega (arith, s.rest) }
+
+    pub count-done : k ≤ count → count ≤ k → (found ≡ bearing_at t id start count) × (found ≤ count)
+    count-done l h = (omega (arith, s.rest, bearing-none t id (start + 8 * k) (count - k) (omega arith)), omega (arith, s.few))
 
 -- ---- the first match
 
@@ -81,18 +92,18 @@ pub record FirstHere (t : List ℕ) (id : SectorId) (i at k j a : ℕ) : Type 0 
   pub bears : bearing_at t id at k ≡ bearing_at t id a (i + k - j)
 
 module _ (t : List ℕ) (id : SectorId) where
-  pub reached : (i at place k j a p : ℕ) → sector_spot t id i at place k ≡ At j a p → FirstHere t id i at k j a
+  pub reached : (i at place k j a p : ℕ) → sector_spot t id i at place k ≡ spot j a p → FirstHere t id i at k j a
   unfolding sector_spot bearing_at
   reached i at place zero j a p e = never (cc)
   reached i at place (suc k) j a p e =
       told (row_here t id at) refl e (reached (i + 1) (at + 8) (place + (row_at t at).stored) k j a p)
     where
-      told : (h : Bool) → row_here t id at ≡ h → cond h (At i at place) (sector_spot t id (i + 1) (at + 8) (place + (row_at t at).stored) k) ≡ At j a p
-          → (sector_spot t id (i + 1) (at + 8) (place + (row_at t at).stored) k ≡ At j a p → FirstHere t id (i + 1) (at + 8) k j a)
+      told : (h : Bool) → row_here t id at ≡ h → cond h (spot i at place) (sector_spot t id (i + 1) (at + 8) (place + (row_at t at).stored) k) ≡ spot j a p
+          → (sector_spot t id (i + 1) (at + 8) (place + (row_at t at).stored) k ≡ spot j a p → FirstHere t id (i + 1) (at + 8) k j a)
           → FirstHere t id i at (suc k) j a
       told true f q r =
-          let ea : a ≡ at = cc in
-          let ej : j ≡ i = cc in
+          let ea : a ≡ at = sym (ap (λ (x : Spot). x.at) (some-same _ _ q)) in
+          let ej : j ≡ i = sym (ap (λ (x : Spot). x.index) (some-same _ _ q)) in
           let n : i + suc k - i ≡ suc k = omega arith in
           rw (ea, ej) (record { from = omega arith; below = omega arith; stands = rw n; here = f; bears = rw n })
       told false f q r =
@@ -110,19 +121,19 @@ module _ (t : List ℕ) (id : SectorId) where
   -- ---- what `first_sector` answers
 
   module _ (start first count : ℕ) where
-    pub hit-none : Nothing ≡ sector_spot t id 0 start first count → hit.Nothing ≡ row_hit t id start first count
+    pub hit-none : None ≡ sector_spot t id 0 start first count → None ≡ row_hit t id start first count
     unfolding row_hit
     hit-none e = ap (hit_of (bearing_at t id start count)) e
 
-    module _ (i a p : ℕ) (e : At i a p ≡ sector_spot t id 0 start first count) where
+    module _ (i a p : ℕ) (e : spot i a p ≡ sector_spot t id 0 start first count) where
       -- it is one of the rows, and the others follow it
       pub hit-row : (i < count) × (a + 8 * (count - i) ≡ start + 8 * count)
       hit-row = let w = reached 0 start first count i a p (sym e) in (omega (arith, w.below), omega (arith, w.stands))
 
-      pub hit-at : (n : ℕ) → n ≡ bearing_at t id (a + 8) (count - i - 1)
-          → hit.At (record { place = i + 1; count = n + 1 }) a p ≡ row_hit t id start first count
+      pub hit-found : (n : ℕ) → n ≡ bearing_at t id (a + 8) (count - i - 1)
+          → hit_at (record { place = i + 1; count = n + 1 }) a p ≡ row_hit t id start first count
       unfolding row_hit
-      hit-at n f =
+      hit-found n f =
           let w = reached 0 start first count i a p (sym e) in
           let k : 0 + count - i ≡ count - i = omega arith in
           let z = rw w.here at (bearing-step t id a (count - i) (omega (arith, w.below))) in

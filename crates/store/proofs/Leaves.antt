@@ -6,14 +6,14 @@ use lib.ListN.{length}
 use lib.Dec.{leb}
 use borrow.Author.Tests.{leb-true}
 use Rattle.buffer.specs.Over.{over}
-use Rattle.fields.specs.Refusals.{Result, refused, good}
 use Rattle.fields.specs.Capacities.{most_tracks, most_sectors}
 use Rattle.fields.specs.Model.{Disk, sector_count, byte_count}
 use Rattle.fields.proofs.Tests.{never, need-good}
 use Rattle.store.specs.Store.{table_length, room_of, table_of, data_of, disk_of}
 use Rattle.store.specs.Calls.{outcome, laid, within, fitting}
-use Rattle.store.specs.declared.answer.Done.TheVariants as done
 use Rattle.store.proofs.Rounds.{laid-back}
+use Rattle.std.specs.Prelude.{Result, Ok, Err}
+use Rattle.fields.specs.declared.refusal.Refusal.{Refusal}
 
 -- ---- what the capacities allow
 
@@ -22,7 +22,7 @@ pub record Allowed (room : ℕ) (d : Disk) : Type 0 where
   pub sectors : sector_count d ≤ most_sectors
   pub bytes : byte_count d ≤ room
 
-pub fitting-good : (room : ℕ) (d new : Disk) → fitting room d ≡ good new → (d ≡ new) × Allowed room d
+pub fitting-good : (room : ℕ) (d new : Disk) → fitting room d ≡ Ok new → (d ≡ new) × Allowed room d
 unfolding within
 fitting-good room d new e =
     let a = need-good (leb (length d) most_tracks) _ _ new e in
@@ -33,16 +33,16 @@ fitting-good room d new e =
 -- ---- so the store is accepted
 
 module _ (t b : List ℕ) (long : length t ≡ table_length) (made : Disk) where
-  pub fitting-accepted : (new : Disk) → fitting (room_of b) made ≡ good new → disk_of (over t 0 (table_of new)) (over b 0 (data_of new)) ≡ good new
+  pub fitting-accepted : (new : Disk) → fitting (room_of b) made ≡ Ok new → disk_of (over t 0 (table_of new)) (over b 0 (data_of new)) ≡ Ok new
   fitting-accepted new f =
       let w = fitting-good (room_of b) made new f in
       let s = w.1 in
       rw (sym w.0) (laid-back t b made long s.tracks s.sectors s.bytes)
 
   -- A call that lays a disk where the capacities allow it, and has succeeded: the store that it leaves is accepted, and holds that disk.
-  pub fitting-left : (t' b' : List ℕ) → laid t b (fitting (room_of b) made) ≡ outcome done.Good t' b' → disk_of t' b' ≡ good made
+  pub fitting-left : (t' b' : List ℕ) → laid t b (fitting (room_of b) made) ≡ outcome (Ok tt) t' b' → disk_of t' b' ≡ Ok made
   fitting-left t' b' e = told (fitting (room_of b) made) refl e
     where
-      told : (r : Result Disk) → fitting (room_of b) made ≡ r → laid t b r ≡ outcome done.Good t' b' → disk_of t' b' ≡ good made
-      told (refused why) f q = never (cc)
-      told (good new) f q = cc ((fitting-good (room_of b) made new f).0, fitting-accepted new f)
+      told : (r : Result Disk Refusal) → fitting (room_of b) made ≡ r → laid t b r ≡ outcome (Ok tt) t' b' → disk_of t' b' ≡ Ok made
+      told (Err why) f q = never (cc)
+      told (Ok new) f q = cc ((fitting-good (room_of b) made new f).0, fitting-accepted new f)

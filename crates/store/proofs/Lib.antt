@@ -1,4 +1,5 @@
 -- Laws that more than one proof cites, and those that the crates above use.
+pub mod Same
 pub mod Sums
 pub mod Checks
 pub mod Walks

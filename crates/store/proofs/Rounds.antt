@@ -9,7 +9,6 @@ use lib.Seq.{get_or-drop, drop-drop, take_at, drop_at}
 use Rattle.buffer.specs.Over.{over}
 use Rattle.buffer.proofs.Overs.{over-length, over-front}
 use Rattle.fields.specs.Bytes.{byte_at, number_at}
-use Rattle.fields.specs.Refusals.{good}
 use Rattle.fields.specs.Model.{Sector, Track, Disk, total, track_bytes, sector_count, byte_count}
 use Rattle.tracks.specs.Block.{row_at}
 use Rattle.tracks.specs.declared.track.Row.{Row}
@@ -17,6 +16,7 @@ use Rattle.store.specs.Store.{table_length, room_of, tracks_for, table_of, conte
 use Rattle.tracks.specs.Rows.{row_for, sector_row, rows_for}
 use Rattle.store.proofs.Checks.{Kept, well-laid, disk-good}
 use Rattle.fields.specs.Capacities.{most_tracks, most_sectors, most_data}
+use Rattle.std.specs.Prelude.{Ok}
 
 -- ---- lengths
 
@@ -205,7 +205,7 @@ module _ (t b : List ℕ) (d : Disk) (long : length t ≡ table_length) (tracks 
   room-kept = ap (λ (n : ℕ). min n most_data) (over-length b 0 (data_of d) (omega (arith, data-length d)))
 
   -- what is laid is read back
-  pub laid-back : disk_of (over t 0 (table_of d)) (over b 0 (data_of d)) ≡ good d
+  pub laid-back : disk_of (over t 0 (table_of d)) (over b 0 (data_of d)) ≡ Ok d
   laid-back =
       let r : List ℕ = drop (length (table_of d)) t in
       let u : List ℕ = over t 0 (table_of d) in
@@ -216,10 +216,10 @@ module _ (t b : List ℕ) (d : Disk) (long : length t ≡ table_length) (tracks 
       let size : bytes_at u 1 (byte_at u 0) ≡ byte_count d = rw n (bytes_back d u 1 r e) in
       let l : Kept u (room_of v) = record { long = table-long; tracks = omega arith; sectors = omega arith; bytes = omega (arith, room-kept) } in
       disk-good u v (well-laid u (room_of v) l)
-      ∙ ap good (rw n (tracks-back d u v 1 0 r (drop (length (data_of d)) b) e (over-front b (data_of d))))
+      ∙ ap Ok (rw n (tracks-back d u v 1 0 r (drop (length (data_of d)) b) e (over-front b (data_of d))))
 
   -- a store in which the disk stands already
-  pub held : t ≡ over t 0 (table_of d) → b ≡ over b 0 (data_of d) → disk_of t b ≡ good d
+  pub held : t ≡ over t 0 (table_of d) → b ≡ over b 0 (data_of d) → disk_of t b ≡ Ok d
   held e f = ap₂ disk_of e f ∙ laid-back
 
 -- two disks that stand in one store are one
@@ -228,6 +228,6 @@ pub holds-one : (t b : List ℕ) (d e : Disk) → length t ≡ table_length
     → length e ≤ most_tracks → sector_count e ≤ most_sectors → byte_count e ≤ room_of b → t ≡ over t 0 (table_of e) → b ≡ over b 0 (data_of e)
     → d ≡ e
 holds-one t b d e l n s c x y n' s' c' x' y' =
-    let p : disk_of t b ≡ good d = held t b d l n s c x y in
-    let q : disk_of t b ≡ good e = held t b e l n' s' c' x' y' in
+    let p : disk_of t b ≡ Ok d = held t b d l n s c x y in
+    let q : disk_of t b ≡ Ok e = held t b e l n' s' c' x' y' in
     cc

@@ -65,24 +65,28 @@ track-sum t at n b en eb = eb ∙ ap (sum_at t (at + 6)) en
 -- ---- the loop of `rows_len`
 
 -- what it knows at its head
-pub record Summed (t : List ℕ) (start count sum at left : ℕ) : Type 0 where
-  pub inside : at + 8 * left ≤ table_length
-  pub few : left ≤ count
-  pub small : sum ≤ 65535 * (count - left)
-  pub rest : sum + sum_at t at left ≡ sum_at t start count
+pub record Summed (t : List ℕ) (start count sum k : ℕ) : Type 0 where
+  pub inside : start + 8 * count ≤ table_length
+  pub few : k ≤ count
+  pub small : sum ≤ 65535 * k
+  pub rest : sum + sum_at t (start + 8 * k) (count - k) ≡ sum_at t start count
 
 module _ (t : List ℕ) (start count : ℕ) where
-  pub sum-start : start + 8 * count ≤ table_length → Summed t start count 0 start count
-  sum-start h = record { inside = h; few = omega arith; small = omega arith; rest = omega arith }
+  pub sum-start : start + 8 * count ≤ table_length → Summed t start count 0 0
+  sum-start h =
+      let e : start + 8 * 0 ≡ start = omega arith in
+      let f : count - 0 ≡ count = omega arith in
+      record { inside = h; few = omega arith; small = omega arith; rest = rw (e, f) (omega arith) }
 
-  module _ (sum at left : ℕ) (s : Summed t start count sum at left) where
-    pub sum-again : (v : ℕ) → 0 < left → v ≡ (row_at t at).stored → v < 65536 → Summed t start count (sum + v) (at + 8) (left - 1)
-    sum-again v h e l = record {
-      inside = omega (arith, s.inside);
-      few = omega (arith, s.few);
-      small = omega (arith, s.small, s.few);
-      rest = omega (arith, s.rest, sum_step t at left h);
-    }
+  module _ (sum k : ℕ) (s : Summed t start count sum k) where
+    pub sum-again : (v : ℕ) → k < count → v ≡ (row_at t (start + 8 * k)).stored → v < 65536 → Summed t start count (sum + v) (k + 1)
+    sum-again v h e l =
+        let p : start + 8 * k + 8 ≡ start + 8 * (k + 1) = omega arith in
+        let q : count - k - 1 ≡ count - (k + 1) = omega arith in
+        let more : 0 < count - k = omega arith in
+        let z : sum_at t (start + 8 * k) (count - k) ≡ v + sum_at t (start + 8 * (k + 1)) (count - (k + 1)) =
+        rw (e, ← p, ← q) (sum_step t (start + 8 * k) (count - k) more) in
+        record { inside = s.inside; few = omega arith; small = omega (arith, s.small); rest = omega (arith, s.rest) }
 
-    pub sum_done : left ≤ 0 → (sum ≡ sum_at t start count) × (sum ≤ 65535 * count)
-    sum_done h = (omega (arith, s.rest, sum-none t at left h), omega (arith, s.small))
+    pub sum_done : count ≤ k → (sum ≡ sum_at t start count) × (sum ≤ 65535 * count)
+    sum_done h = (omega (arith, s.rest, sum-none t (start + 8 * k) (count - k) (omega arith)), omega (arith, s.small, s.few))

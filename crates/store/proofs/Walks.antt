@@ -1,8 +1,7 @@
 -- The walks of the searches and of the geometry: what each knows at the head of its loop, and one turn of it.
 use mathlib.Core.Path.{◌≡◌, refl, sym, ◌∙◌}
-use Prim.Native.Nat.{ℕ, zero, suc, ◌+◌, ◌-◌, ◌*◌, ◌%◌, ◌≤◌, ◌<◌, max}
+use Prim.Native.Nat.{ℕ, ◌+◌, ◌-◌, ◌*◌, ◌≤◌, ◌<◌, max}
 use native.Mathlib.Omega.{arith}
-use native.Mathlib.Nat.{mod-lt}
 use mathlib.Core.List.{List}
 use mathlib.Core.Logic.{◌⊎◌, ⊎_elim}
 use mathlib.Core.Bool.{true, false, cond}
@@ -13,26 +12,26 @@ use Rattle.tracks.specs.Block.{row_at}
 use Rattle.fields.specs.declared.id.SectorId.{SectorId}
 use Rattle.tracks.proofs.Tracks.{down}
 use Rattle.store.specs.Store.{table_length, sum_at, count_at, next_at, track_sum, bytes_at}
-use Rattle.store.specs.Spots.{end_at, track_here, track_spot, row_here, sector_spot, cylinders_at, turned, Walkable}
-use Rattle.store.specs.declared.find.Spot.TheVariants.{Nothing, At}
-use Rattle.store.specs.declared.find.Turned.TheVariants.{Empty, Row}
-use Rattle.store.specs.declared.answer.Geometry.TheVariants.{Of}
+use Rattle.store.specs.Spots.{end_at, track_here, track_spot, row_here, sector_spot, cylinders_at, Walkable, spot}
 use Rattle.store.proofs.Sums.{down-none, sum_step, bytes-step, end_step, within, track-sum}
 use Rattle.fields.specs.Capacities.{most_data}
+use Rattle.std.specs.Prelude.{None}
+use Rattle.store.specs.Calls.{two_sides}
+use Rattle.store.proofs.Same.{one-less}
 
 -- ---- tracks
 
 module _ (t : List ℕ) (side cylinder i at place : ℕ) where
   track-step : (k : ℕ) → 0 < k → track_spot t side cylinder i at place k
-      ≡ cond (track_here t side cylinder at) (At i at place) (track_spot t side cylinder (i + 1) (next_at t at) (place + track_sum t at) (k - 1))
+      ≡ cond (track_here t side cylinder at) (spot i at place) (track_spot t side cylinder (i + 1) (next_at t at) (place + track_sum t at) (k - 1))
   unfolding track_spot
   track-step =
       down (λ k j. track_spot t side cylinder i at place k
-      ≡ cond (track_here t side cylinder at) (At i at place) (track_spot t side cylinder (i + 1) (next_at t at) (place + track_sum t at) j)) (λ k. refl)
+      ≡ cond (track_here t side cylinder at) (spot i at place) (track_spot t side cylinder (i + 1) (next_at t at) (place + track_sum t at) j)) (λ k. refl)
 
-  track-none : (k : ℕ) → k ≤ 0 → track_spot t side cylinder i at place k ≡ Nothing
+  track-none : (k : ℕ) → k ≤ 0 → track_spot t side cylinder i at place k ≡ None
   unfolding track_spot
-  track-none = down-none (λ k. track_spot t side cylinder i at place k ≡ Nothing) refl
+  track-none = down-none (λ k. track_spot t side cylinder i at place k ≡ None) refl
 
 -- what the search for a track knows at its head
 pub record TrackWalk (t : List ℕ) (side cylinder left index at place : ℕ) : Type 0 where
@@ -66,25 +65,33 @@ module _ (t : List ℕ) (side cylinder : ℕ) where
           spot = rw (en, e) (sym (rw f at (track-step t side cylinder index at place left h)) ∙ w.spot);
         }
 
-    pub track-found : 0 < left → track_here t side cylinder at ≡ true → At index at place ≡ track_spot t side cylinder 0 1 0 (byte_at t 0)
+    pub track-found : 0 < left → track_here t side cylinder at ≡ true → spot index at place ≡ track_spot t side cylinder 0 1 0 (byte_at t 0)
     track-found h f = sym (rw f at (track-step t side cylinder index at place left h)) ∙ w.spot
 
-    pub track-over : left ≤ 0 → Nothing ≡ track_spot t side cylinder 0 1 0 (byte_at t 0)
+    pub track-over : left ≤ 0 → None ≡ track_spot t side cylinder 0 1 0 (byte_at t 0)
     track-over h = sym (track-none t side cylinder index at place left h) ∙ w.spot
+
+  -- a turn of a loop that counts up to n
+  pub track-on : (n k index at place : ℕ) → TrackWalk t side cylinder (n - k) index at place → (c b : ℕ) → k < n → c ≡ count_at t at
+      → b ≡ sum_at t (at + 6) c → track_here t side cylinder at ≡ false
+      → TrackWalk t side cylinder (n - (k + 1)) (index + 1) (at + (6 + 8 * c)) (place + b)
+  track-on n k index at place w c b h ec eb f =
+      one-less (λ m. TrackWalk t side cylinder m (index + 1) (at + (6 + 8 * c)) (place + b)) n k
+      (track-again (n - k) index at place w c b (omega arith) ec eb f)
 
 -- ---- rows
 
 module _ (t : List ℕ) (id : SectorId) (i at place : ℕ) where
   row_step : (k : ℕ) → 0 < k → sector_spot t id i at place k
-      ≡ cond (row_here t id at) (At i at place) (sector_spot t id (i + 1) (at + 8) (place + (row_at t at).stored) (k - 1))
+      ≡ cond (row_here t id at) (spot i at place) (sector_spot t id (i + 1) (at + 8) (place + (row_at t at).stored) (k - 1))
   unfolding sector_spot
   row_step =
       down (λ k j. sector_spot t id i at place k
-      ≡ cond (row_here t id at) (At i at place) (sector_spot t id (i + 1) (at + 8) (place + (row_at t at).stored) j)) (λ k. refl)
+      ≡ cond (row_here t id at) (spot i at place) (sector_spot t id (i + 1) (at + 8) (place + (row_at t at).stored) j)) (λ k. refl)
 
-  row-none : (k : ℕ) → k ≤ 0 → sector_spot t id i at place k ≡ Nothing
+  row-none : (k : ℕ) → k ≤ 0 → sector_spot t id i at place k ≡ None
   unfolding sector_spot
-  row-none = down-none (λ k. sector_spot t id i at place k ≡ Nothing) refl
+  row-none = down-none (λ k. sector_spot t id i at place k ≡ None) refl
 
 -- what the search for a row knows at its head
 pub record RowWalk (t : List ℕ) (id : SectorId) (start first count left index at place : ℕ) : Type 0 where
@@ -112,30 +119,18 @@ module _ (t : List ℕ) (id : SectorId) (start first count : ℕ) where
       spot = rw e (sym (rw f at (row_step t id index at place left h)) ∙ w.spot);
     }
 
-    pub row-found : 0 < left → row_here t id at ≡ true → At index at place ≡ sector_spot t id 0 start first count
+    pub row-found : 0 < left → row_here t id at ≡ true → spot index at place ≡ sector_spot t id 0 start first count
     row-found h f = sym (rw f at (row_step t id index at place left h)) ∙ w.spot
 
-    pub row-over : left ≤ 0 → Nothing ≡ sector_spot t id 0 start first count
+    pub row-over : left ≤ 0 → None ≡ sector_spot t id 0 start first count
     row-over h = sym (row-none t id index at place left h) ∙ w.spot
 
--- ---- a row by its index
-
--- what `get_sector_by_idx` answers, its count read before
-module _ (t : List ℕ) (at i n m : ℕ) (e : n ≡ m) where
-  pub turn-none : n ≡ 0 → Empty ≡ turned t at i m
-  turn-none h = let z : m ≡ 0 = cc in rw z
-
-  pub turn-some : (n ≡ 0 → ⊥) → Row (i % n) (at + 6 + 8 * (i % n)) ≡ turned t at i m
-  turn-some h = rw e (some m (λ z. h (e ∙ z)))
-    where
-      some : (k : ℕ) → (k ≡ 0 → ⊥) → Row (i % k) (at + 6 + 8 * (i % k)) ≡ turned t at i k
-      some zero g = absurd (g refl)
-      some (suc k) g = refl
-
--- a turned index is below the count
-pub turn_inside : (i n : ℕ) → (n ≡ 0 → ⊥) → i % n < n
-turn_inside i zero h = absurd (h refl)
-turn_inside i (suc n) h = mod-lt i (omega arith)
+  -- a turn of a loop that counts up to n
+  pub row-on : (n k index at place : ℕ) → RowWalk t id start first count (n - k) index at place → (v : ℕ) → k < n → v ≡ (row_at t at).stored
+      → row_here t id at ≡ false → RowWalk t id start first count (n - (k + 1)) (index + 1) (at + 8) (place + v)
+  row-on n k index at place w v h e f =
+      one-less (λ m. RowWalk t id start first count m (index + 1) (at + 8) (place + v)) n k
+      (row-again (n - k) index at place w v (omega arith) e f)
 
 -- ---- cylinders
 
@@ -149,9 +144,9 @@ module _ (t : List ℕ) (c0 c1 at : ℕ) where
       ≡ cond (eqb (byte_at t (at + 1)) 0) (cylinders_at t (max c0 (byte_at t at)) c1 (next_at t at) j)
       (cylinders_at t c0 (max c1 (byte_at t at)) (next_at t at) j)) (λ k. refl)
 
-  cylinder-none : (k : ℕ) → k ≤ 0 → cylinders_at t c0 c1 at k ≡ Of c0 c1
+  cylinder-none : (k : ℕ) → k ≤ 0 → cylinders_at t c0 c1 at k ≡ two_sides c0 c1
   unfolding cylinders_at
-  cylinder-none = down-none (λ k. cylinders_at t c0 c1 at k ≡ Of c0 c1) refl
+  cylinder-none = down-none (λ k. cylinders_at t c0 c1 at k ≡ two_sides c0 c1) refl
 
 -- what the loop of `cylinders` knows at its head
 pub record CylinderWalk (t : List ℕ) (left at c0 c1 : ℕ) : Type 0 where
@@ -186,5 +181,14 @@ module _ (t : List ℕ) where
           let y : byte_at t (at + 1) ≡ 0 → ⊥ = λ q. k.0 (es ∙ q) in
           past (omega (arith, w.low0)) (omega (arith, w.low1)) (rw (k.1.0, k.1.1, ex) (rw (ne_eqb _ _ y) at (cylinder-step t c0 c1 at left h))))
 
-    pub cylinder-over : left ≤ 0 → Of c0 c1 ≡ cylinders_at t 0 0 1 (byte_at t 0)
+    pub cylinder-over : left ≤ 0 → two_sides c0 c1 ≡ cylinders_at t 0 0 1 (byte_at t 0)
     cylinder-over h = sym (cylinder-none t c0 c1 at left h) ∙ w.rest
+
+  -- a turn of a loop that counts up to n
+  module _ (n k at c0 c1 : ℕ) (w : CylinderWalk t (n - k) at c0 c1) (h : k < n) where
+    pub cylinder-on : (x s c d0 d1 : ℕ) → x ≡ byte_at t at → x < 256 → s ≡ byte_at t (at + 1) → c ≡ count_at t at
+        → ((s ≡ 0) × ((d0 ≡ max c0 x) × (d1 ≡ c1))) ⊎ ((s ≡ 0 → ⊥) × ((d0 ≡ c0) × (d1 ≡ max c1 x)))
+        → CylinderWalk t (n - (k + 1)) (at + (6 + 8 * c)) d0 d1
+    cylinder-on x s c d0 d1 ex lx es en r =
+        one-less (λ m. CylinderWalk t m (at + (6 + 8 * c)) d0 d1) n k
+        (cylinder-again (n - k) at c0 c1 w (omega arith) x s c d0 d1 ex lx es en r)

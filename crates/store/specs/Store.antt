@@ -3,14 +3,15 @@
 -- table[0] is the number of tracks. Then, track after track: cylinder, side, size n, gap, filler, number of sectors, and at once so many
 -- rows of eight bytes: c, h, r, n, st1, st2, stored length (low byte first). The sectors' bytes lie in the data buffer from 0 on, one after
 -- another in the order of their rows.
-use Rattle.std.specs.Prelude.{ℕ, zero, suc, ◌+◌, ◌*◌, min, List, [], ◌∷◌, ◌++◌, Bool, ◌&&◌, length, drop, eqb, leb}
-use Rattle.fields.specs.Refusals.{Result, good, need}
+use Rattle.std.specs.Prelude.{ℕ, zero, suc, ◌+◌, ◌*◌, min, List, [], ◌∷◌, ◌++◌, Bool, ◌&&◌, length, drop, eqb, leb, Result, Ok}
+use Rattle.fields.specs.Refusals.{need}
 use Rattle.fields.specs.Capacities.{most_tracks, most_sectors, most_data, most_transfer}
 use Rattle.fields.specs.Bytes.{byte_at}
 use Rattle.fields.specs.Model.{Sector, Track, Disk}
 use Rattle.tracks.specs.Block.{row_at, sector_of, track_head}
 use Rattle.tracks.specs.Rows.{head_for, rows_for}
 use Rattle.fields.specs.declared.refusal.Refusal.TheVariants.{BadStore}
+use Rattle.fields.specs.declared.refusal.Refusal.{Refusal}
 
 -- ---- Capacities
 
@@ -100,5 +101,5 @@ well_laid t room =
     && (leb (byte_at t 0) most_tracks && (leb (counts_at t 1 (byte_at t 0)) most_sectors && leb (bytes_at t 1 (byte_at t 0)) room))
 
 -- the disk that a store holds; 2 where it breaks the layout
-unfoldable pub disk_of : List ℕ → List ℕ → Result Disk
-disk_of t b = need (well_laid t (room_of b)) BadStore (good (tracks_at t b 1 0 (byte_at t 0)))
+unfoldable pub disk_of : List ℕ → List ℕ → Result Disk Refusal
+disk_of t b = need (well_laid t (room_of b)) BadStore (Ok (tracks_at t b 1 0 (byte_at t 0)))

@@ -2,10 +2,9 @@
 ghost use Rattle.std.specs.Prelude.{◌≡◌};
 ghost use Rattle.store.specs.Search.{no_match};
 
-use fields::{Refusal, SectorId};
-
-// Which sector a search serves: its place in the track, from 1, and how many sectors of the track bear its ID; 0 and 0 where there is none.
-#[derive(Clone, Copy)]
+// Which sector a search serves: its place in the track, from 1, and how many sectors of the track bear its ID; 0 and 0 where there is none:
+// the word for a host has both numbers always, and so no `Option` (docs/DECISIONS.md, 87).
+#[derive(Clone, Copy, PartialEq, Eq)]
 pub struct Match {
     pub place: u8,
     pub count: u8,
@@ -19,37 +18,9 @@ impl Match {
     }
 }
 
-#[derive(Clone, Copy)]
-pub enum Has {
-    Yes(Match),
-    No,
-    Refused(Refusal),
-}
-
 // The greatest cylinder of side 0, and of all other sides.
-#[derive(Clone, Copy)]
-pub enum Geometry {
-    Of(u8, u8),
-    Refused(Refusal),
-}
-
-// The ID that a Read ID finds.
-#[derive(Clone, Copy)]
-pub enum IdFound {
-    Of(SectorId),
-    Missing,
-    Refused(Refusal),
-}
-
-#[derive(Clone, Copy)]
-pub enum Done {
-    Good,
-    Refused(Refusal),
-}
-
-// How many bytes were written, or would be, or why none are.
-#[derive(Clone, Copy)]
-pub enum Extent {
-    Of(u32),
-    Refused(Refusal),
+#[derive(Clone, Copy, PartialEq, Eq)]
+pub struct Geometry {
+    pub c0: u8,
+    pub c1: u8,
 }

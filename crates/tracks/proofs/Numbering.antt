@@ -1,11 +1,11 @@
--- IDs that are laid one behind another, from the last to the first, and read back.
+-- IDs that are laid one behind another, and read back.
 use mathlib.Core.Path.{◌≡◌, refl, sym, ap, ap₂, ◌∙◌}
-use Prim.Native.Nat.{ℕ, zero, suc, ◌+◌, ◌-◌, ◌*◌, ◌≤◌, ◌<◌}
+use Prim.Native.Nat.{ℕ, zero, suc, ◌+◌, ◌*◌, ◌≤◌}
 use native.Mathlib.Omega.{arith}
 use mathlib.Core.List.{List, [], ◌∷◌, ◌++◌}
 use lib.ListN.{length, drop}
 use Rattle.buffer.specs.Over.{over}
-use Rattle.buffer.proofs.Overs.{over-nil, over-length, over-join, over-front}
+use Rattle.buffer.proofs.Overs.{over-nil, over-length, over-over, over-front}
 use Rattle.fields.specs.Bytes.{byte_at}
 use Rattle.fields.specs.declared.id.SectorId.{SectorId}
 use Rattle.tracks.specs.Block.{id_at}
@@ -24,53 +24,62 @@ numbered-length c h n r (suc k) = ap suc (numbered-length c h n (r + 1) k)
 
 -- ---- Laid
 
--- what the loop knows at its head: the IDs behind the first `left` are laid
-pub record Numbering (ids₀ : List ℕ) (c h n count : ℕ) (ids : List ℕ) (left : ℕ) : Type 0 where
-  pub same : length ids ≡ length ids₀
-  pub few : left ≤ count
-  pub laid : ids ≡ over ids₀ (4 * left) (ids_for (ids_from c h n (left + 1) (count - left)) [])
-
-module _ (ids₀ : List ℕ) (c h n count : ℕ) where
-  pub number-start : Numbering ids₀ c h n count ids₀ count
-  unfolding ids_for ids_from
-  number-start =
-      let e : count - count ≡ 0 = omega arith in
-      record { same = refl; few = omega arith; laid = rw e (sym (over-nil ids₀ (4 * count))) }
-
-  module _ (ids : List ℕ) (left : ℕ) (s : Numbering ids₀ c h n count ids left) where
-    pub number-again : (next : List ℕ) → next ≡ over ids (4 * (left - 1)) (c ∷ h ∷ left ∷ n ∷ []) → 4 * count ≤ length ids₀ → 0 < left
-        → Numbering ids₀ c h n count next (left - 1)
-    unfolding ids_for ids_from
-    number-again next p fits more =
-        let at : ℕ = 4 * (left - 1) in
-        let one : List ℕ = c ∷ h ∷ left ∷ n ∷ [] in
-        let e : count - (left - 1) ≡ suc (count - left) = omega (arith, s.few) in
-        let f : left - 1 + 1 ≡ left = omega arith in
-        let g : 4 * left ≡ 4 * (left - 1) + 4 = omega arith in
-        let l : 4 * (left - 1) + 4 ≤ length ids = omega (arith, s.same, s.few) in
-        record {
-          same = ap length p ∙ over-length ids (4 * (left - 1)) (c ∷ h ∷ left ∷ n ∷ []) l ∙ s.same;
-          few = omega (arith, s.few);
-          laid = rw (e, f) (
-              p ∙ ap (λ (x : List ℕ). over x (4 * (left - 1)) (c ∷ h ∷ left ∷ n ∷ [])) s.laid
-              ∙ over-join ids₀ (4 * (left - 1)) (c ∷ h ∷ left ∷ n ∷ []) (ids_for (ids_from c h n (left + 1) (count - left)) []) (4 * left) g (omega (arith, s.few))
-              );
-        }
-
-    pub number-done : left ≤ 0 → ids ≡ over ids₀ 0 (ids_for (ids_from c h n 1 count) [])
-    number-done none =
-        let e : count - left ≡ count = omega arith in
-        let f : 4 * left ≡ 0 = omega arith in
-        let g : left + 1 ≡ 1 = omega arith in
-        s.laid ∙ (λ i. over ids₀ (f i) (ids_for (ids_from c h n (g i) (e i)) []))
-
--- ---- Read back
-
 -- what follows may be laid behind
 ids-append : (xs : List SectorId) (rest : List ℕ) → ids_for xs [] ++ rest ≡ ids_for xs rest
 unfolding ids_for
 ids-append [] rest = refl
 ids-append (x ∷ xs) rest = ap (λ (l : List ℕ). x.c ∷ x.h ∷ x.r ∷ x.n ∷ l) (ids-append xs rest)
+
+-- four bytes each
+ids-long : (xs : List SectorId) → length (ids_for xs []) ≡ 4 * length xs
+unfolding ids_for
+ids-long [] = refl
+ids-long (x ∷ xs) = let e : length (ids_for xs []) ≡ 4 * length xs = ids-long xs in omega arith
+
+-- one ID more, at the end
+one-more : (c h n r k : ℕ) (rest : List ℕ) → ids_for (ids_from c h n r (k + 1)) rest ≡ ids_for (ids_from c h n r k) (c ∷ h ∷ (r + k) ∷ n ∷ rest)
+unfolding ids_for ids_from
+one-more c h n r zero rest = let e : r ≡ r + 0 = omega arith in ap (λ (x : ℕ). c ∷ h ∷ x ∷ n ∷ rest) e
+one-more c h n r (suc k) rest =
+    let e : suc k + 1 ≡ suc (k + 1) = omega arith in
+    let f : r + 1 + k ≡ r + suc k = omega arith in
+    rw e (
+    ap (λ (l : List ℕ). c ∷ h ∷ r ∷ n ∷ l)
+    (one-more c h n (r + 1) k rest ∙ ap (λ (x : ℕ). ids_for (ids_from c h n (r + 1) k) (c ∷ h ∷ x ∷ n ∷ rest)) f)
+    )
+
+-- what the loop knows at its head: the first k IDs are laid
+pub record Numbering (ids₀ : List ℕ) (c h n : ℕ) (ids : List ℕ) (k : ℕ) : Type 0 where
+  pub same : length ids ≡ length ids₀
+  pub laid : ids ≡ over ids₀ 0 (ids_for (ids_from c h n 1 k) [])
+
+module _ (ids₀ : List ℕ) (c h n : ℕ) where
+  pub number-start : Numbering ids₀ c h n ids₀ 0
+  unfolding ids_for ids_from
+  number-start = record { same = refl; laid = sym (over-nil ids₀ 0) }
+
+  module _ (ids : List ℕ) (k : ℕ) (s : Numbering ids₀ c h n ids k) where
+    pub number-again : (next : List ℕ) → next ≡ over ids (4 * k) (c ∷ h ∷ (k + 1) ∷ n ∷ []) → 4 * (k + 1) ≤ length ids₀
+        → Numbering ids₀ c h n next (k + 1)
+    number-again next p fits =
+        let l : 4 * k ≡ 0 + length (ids_for (ids_from c h n 1 k) []) = omega (arith, ids-long (ids_from c h n 1 k), numbered-length c h n 1 k) in
+        let e : 1 + k ≡ k + 1 = omega arith in
+        record {
+          same = ap length p ∙ over-length ids (4 * k) (c ∷ h ∷ (k + 1) ∷ n ∷ []) (omega (arith, s.same)) ∙ s.same;
+          laid =
+              p ∙ ap (λ (x : List ℕ). over x (4 * k) (c ∷ h ∷ (k + 1) ∷ n ∷ [])) s.laid
+              ∙ over-over ids₀ 0 (ids_for (ids_from c h n 1 k) []) (c ∷ h ∷ (k + 1) ∷ n ∷ []) (4 * k) l (omega arith)
+              ∙ ap (over ids₀ 0) (
+              ids-append (ids_from c h n 1 k) (c ∷ h ∷ (k + 1) ∷ n ∷ [])
+              ∙ sym (one-more c h n 1 k [] ∙ ap (λ (r : ℕ). ids_for (ids_from c h n 1 k) (c ∷ h ∷ r ∷ n ∷ [])) e)
+              );
+        }
+
+    pub number-done : (count : ℕ) → k ≤ count → count ≤ k → ids ≡ over ids₀ 0 (ids_for (ids_from c h n 1 count) [])
+    number-done count few all =
+        let e : k ≡ count = omega arith in s.laid ∙ ap (λ (m : ℕ). over ids₀ 0 (ids_for (ids_from c h n 1 m) [])) e
+
+-- ---- Read back
 
 -- four bytes in front put every ID four places further
 module _ (a b c d : ℕ) (l : List ℕ) where

@@ -7,19 +7,17 @@ use mathlib.Core.Bool.{Bool, true, false}
 use lib.ListN.{length, take, drop, length-take, length-drop}
 use lib.Dec.{leb}
 use borrow.Author.Tests.{lt-leb, le-leb, leb-true}
-use Rattle.fields.specs.Refusals.{Result, good, need}
+use Rattle.fields.specs.Refusals.{need}
 use Rattle.fields.specs.Bytes.{byte_at, text_at, read_string}
 use Rattle.fields.specs.Model.{Sector, Track, total, track_bytes}
 use Rattle.tracks.specs.Block.{row_place, row_of, sector_of, sectors_from, stored_from, data_end, track_in, track_text, body_of, track_of, track_head, block_of}
 use Rattle.fields.specs.declared.refusal.Refusal.{Refusal}
 use Rattle.fields.specs.declared.refusal.Refusal.TheVariants.{ShortImage, NotATrack}
-use Rattle.fields.specs.declared.read.Text.TheVariants as text
 use Rattle.tracks.specs.declared.track.Kind.{Kind}
 use Rattle.tracks.specs.declared.track.Head.{Head}
-use Rattle.tracks.specs.declared.track.Block.{Block}
-use Rattle.tracks.specs.declared.track.Block.TheVariants as block
 use Rattle.fields.proofs.Readers.{told}
 use Rattle.fields.proofs.Tests.{never, need-good}
+use Rattle.std.specs.Prelude.{Result, Ok, Err}
 
 -- a step of a definition that counts down, said of k above 0 and k - 1
 pub down : (P : ℕ → ℕ → Type 0) → ((k : ℕ) → P (suc k) k) → (k : ℕ) → 0 < k → P k (k - 1)
@@ -92,11 +90,7 @@ unfolding stored_from total
 contents-whole kind b =
     by_entries kind b (λ k left ss. total (λ (s : Sector). length s.content) ss ≡ stored_from kind b k left) (λ k. refl) (λ k place left ss e f i. ◌+◌ (e i) (f i))
 
--- where data end
-pub data-end-some : (n : ℕ) → (n ≡ 0 → ⊥) → 0x100 + n ≡ data_end n
-data-end-some zero h = absurd (h refl)
-data-end-some (suc n) h = refl
-
+-- data that end inside the block
 pub data-inside : (n : ℕ) (b : List ℕ) → data_end n ≤ length b → 0 < n → 0x100 + n ≤ length b
 data-inside zero b h p = absurd (omega arith)
 data-inside (suc n) b h p = h
@@ -104,7 +98,7 @@ data-inside (suc n) b h p = h
 -- ---- reading a block
 
 module _ (kind : Kind) (b : List ℕ) where
-  pub body-short : (n : ℕ) → n ≡ byte_at b 0x15 → length b < 0x18 + 8 * n → block.Refused ShortImage ≡ block_of (body_of kind b)
+  pub body-short : (n : ℕ) → n ≡ byte_at b 0x15 → length b < 0x18 + 8 * n → Err ShortImage ≡ block_of (body_of kind b)
   unfolding body_of
   body-short n e h = let l : length b < row_place (byte_at b 0x15) = rw e at h in simp (lt-leb _ _ l)
 
@@ -113,7 +107,7 @@ module _ (kind : Kind) (b : List ℕ) where
     ends : data_end (stored_from kind b 0 (byte_at b 0x15)) ≡ end
     ends = cc
 
-    pub body-cut : length b < end → block.Refused ShortImage ≡ block_of (body_of kind b)
+    pub body-cut : length b < end → Err ShortImage ≡ block_of (body_of kind b)
     unfolding body_of
     body-cut h = simp (le-leb _ _ inside, ends, lt-leb _ _ h)
 
@@ -129,49 +123,49 @@ module _ (kind : Kind) (b : List ℕ) where
         contents-whole kind b 0 0x100 (byte_at b 0x15) (data-inside (stored_from kind b 0 (byte_at b 0x15)) b d) in
         cc
 
-    pub body-good : end ≤ length b → block.Head (record
+    pub body-good : end ≤ length b → Ok (record
         { cylinder = byte_at b 0x10; side = byte_at b 0x11; size = byte_at b 0x14; sectors = byte_at b 0x15; gap = byte_at b 0x16; filler = byte_at b 0x17; stored = st })
         ≡ block_of (body_of kind b)
     unfolding body_of
-    body-good h = simp (le-leb _ _ inside, ends, le-leb _ _ h) (ap block.Head (head-is h))
+    body-good h = simp (le-leb _ _ inside, ends, le-leb _ _ h) (ap Ok (head-is h))
 
-  pub track-short : (why : Refusal) → read_string track_text b 0 ≡ text.Refused why → block.Refused why ≡ block_of (track_of kind b)
+  pub track-short : (why : Refusal) → read_string track_text b 0 ≡ Err why → Err why ≡ block_of (track_of kind b)
   unfolding track_of
-  track-short why e = let f = told track_text b 0 (text.Refused why) e in simp (f.0, f.1)
+  track-short why e = let f = told track_text b 0 (Err why) e in simp (f.0, f.1)
 
-  pub track-other : read_string track_text b 0 ≡ text.Other → block.Refused NotATrack ≡ block_of (track_of kind b)
+  pub track-other : read_string track_text b 0 ≡ Ok false → Err NotATrack ≡ block_of (track_of kind b)
   unfolding track_of
-  track-other e = let f = told track_text b 0 text.Other e in simp (f.0, f.1)
+  track-other e = let f = told track_text b 0 (Ok false) e in simp (f.0, f.1)
 
-  pub track-body : (r : Block) → read_string track_text b 0 ≡ text.Same → r ≡ block_of (body_of kind b) → r ≡ block_of (track_of kind b)
+  pub track-body : (r : Result Head Refusal) → read_string track_text b 0 ≡ Ok true → r ≡ block_of (body_of kind b) → r ≡ block_of (track_of kind b)
   unfolding track_of
-  track-body r e q = let f = told track_text b 0 text.Same e in simp (f.0, f.1) q
+  track-body r e q = let f = told track_text b 0 (Ok true) e in simp (f.0, f.1) q
 
   -- a track that was read has its first twelve bytes
-  pub track-there : (h : Head) → block.Head h ≡ block_of (track_of kind b) → 12 ≤ length b
+  pub track-there : (h : Head) → Ok h ≡ block_of (track_of kind b) → 12 ≤ length b
   unfolding track_of
   track-there h e = there (need (text_at track_text b 0) NotATrack (body_of kind b)) (leb 12 (length b)) refl e
     where
-      there : (next : Result Track) (l : Bool) → leb 12 (length b) ≡ l → block.Head h ≡ block_of (need l ShortImage next) → 12 ≤ length b
+      there : (next : Result Track Refusal) (l : Bool) → leb 12 (length b) ≡ l → Ok h ≡ block_of (need l ShortImage next) → 12 ≤ length b
       there next true q e = leb-true 12 (length b) q
       there next false q e = never (cc)
 
 -- ---- a track that was read as good
 
 -- it is the one that stands in the block, and its data end inside
-pub track-good : (kind : Kind) (b : List ℕ) (t : Track) → track_of kind b ≡ good t
+pub track-good : (kind : Kind) (b : List ℕ) (t : Track) → track_of kind b ≡ Ok t
     → (track_in kind b ≡ t) × (0 < stored_from kind b 0 (byte_at b 0x15) → 0x100 + stored_from kind b 0 (byte_at b 0x15) ≤ length b)
 unfolding track_of body_of
 track-good kind b t e =
     let x = need-good (leb 12 (length b)) ShortImage (need (text_at track_text b 0) NotATrack (body_of kind b)) t e in
     let y = need-good (text_at track_text b 0) NotATrack (body_of kind b) t x.1 in
     let z = need-good (leb (row_place (byte_at b 0x15)) (length b)) ShortImage
-    (need (leb (data_end (stored_from kind b 0 (byte_at b 0x15))) (length b)) ShortImage (good (track_in kind b))) t y.1 in
-    let w = need-good (leb (data_end (stored_from kind b 0 (byte_at b 0x15))) (length b)) ShortImage (good (track_in kind b)) t z.1 in
-    let v : good (track_in kind b) ≡ good t = w.1 in
+    (need (leb (data_end (stored_from kind b 0 (byte_at b 0x15))) (length b)) ShortImage (Ok (track_in kind b))) t y.1 in
+    let w = need-good (leb (data_end (stored_from kind b 0 (byte_at b 0x15))) (length b)) ShortImage (Ok (track_in kind b)) t z.1 in
+    let v : Ok (track_in kind b) ≡ Ok t = w.1 in
     (cc, data-inside (stored_from kind b 0 (byte_at b 0x15)) b (leb-true _ _ w.0))
 
 -- and has as many sectors as its header says
-pub track-count : (kind : Kind) (b : List ℕ) (t : Track) → track_of kind b ≡ good t → length t.sectors ≡ byte_at b 0x15
+pub track-count : (kind : Kind) (b : List ℕ) (t : Track) → track_of kind b ≡ Ok t → length t.sectors ≡ byte_at b 0x15
 unfolding track_in
 track-count kind b t e = ap (λ (x : Track). length x.sectors) (sym (track-good kind b t e).0) ∙ sectors-length kind b 0 0x100 (byte_at b 0x15)

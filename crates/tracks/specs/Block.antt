@@ -1,7 +1,7 @@
 -- A track block of a DSK image: which track it holds, or why it is refused (01, "Reading an image").
 -- Places are those of the published description, from the block's own start.
-use Rattle.std.specs.Prelude.{ℕ, zero, suc, ◌+◌, ◌*◌, List, [], ◌∷◌, length, take, drop, leb}
-use Rattle.fields.specs.Refusals.{Result, refused, good, need}
+use Rattle.std.specs.Prelude.{ℕ, zero, suc, ◌+◌, ◌*◌, List, [], ◌∷◌, length, take, drop, leb, Result, Ok, Err}
+use Rattle.fields.specs.Refusals.{need}
 use Rattle.fields.specs.Bytes.{byte_at, number_at, text_at}
 use Rattle.fields.specs.Model.{size_of, Sector, Track, track_bytes}
 use Rattle.fields.specs.declared.refusal.Refusal.TheVariants.{ShortImage, NotATrack}
@@ -10,8 +10,7 @@ use Rattle.tracks.specs.declared.track.Kind.{Kind}
 use Rattle.tracks.specs.declared.track.Kind.TheVariants.{Normal, Extended}
 use Rattle.tracks.specs.declared.track.Row.{Row}
 use Rattle.tracks.specs.declared.track.Head.{Head}
-use Rattle.tracks.specs.declared.track.Block.{Block}
-use Rattle.tracks.specs.declared.track.Block.TheVariants as block
+use Rattle.fields.specs.declared.refusal.Refusal.{Refusal}
 
 -- `Track-Info` CR LF
 abbrev pub track_text : List ℕ
@@ -74,14 +73,14 @@ track_in kind b = record {
 }
 
 -- a track block behind its signature: the sector list ends inside, and so do the data
-unfoldable pub body_of : Kind → List ℕ → Result Track
+unfoldable pub body_of : Kind → List ℕ → Result Track Refusal
 body_of kind b =
     need (leb (row_place (byte_at b 0x15)) (length b)) ShortImage
     (need (leb (data_end (stored_from kind b 0 (byte_at b 0x15))) (length b)) ShortImage
-    (good (track_in kind b)))
+    (Ok (track_in kind b)))
 
 -- the track block that these bytes begin with
-unfoldable pub track_of : Kind → List ℕ → Result Track
+unfoldable pub track_of : Kind → List ℕ → Result Track Refusal
 track_of kind b =
     need (leb 12 (length b)) ShortImage
     (need (text_at track_text b 0) NotATrack
@@ -102,6 +101,6 @@ track_head t = record {
 }
 
 -- reading a track block
-abbrev pub block_of : Result Track → Block
-block_of (refused why) = block.Refused why
-block_of (good t) = block.Head (track_head t)
+abbrev pub block_of : Result Track Refusal → Result Head Refusal
+block_of (Err why) = Err why
+block_of (Ok t) = Ok (track_head t)

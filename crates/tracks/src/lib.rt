@@ -4,7 +4,7 @@
 mod row;
 mod track;
 
-pub use track::{Block, Head, Kind, Row, content, read_track, sector_row};
+pub use track::{Head, Kind, Row, content, read_track, sector_row};
 
 // For the crates above only: they have a `requires`.
 pub use row::{IDS, number_ids, put_head, put_row};

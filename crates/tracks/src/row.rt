@@ -27,12 +27,17 @@ pub fn put_row(table: &mut [u8], at: usize, row: Row)
     ensures { table.new ≡ over table.old at (row_for row []) }
 {
     let id = row.id;
-    let st1 = row.st1;
-    let st2 = row.st2;
     let low = row.stored % 256;
     let high = row.stored / 256;
     let bytes = [
-        id.c, id.h, id.r, id.n, st1.bits, st2.bits, low as u8, high as u8,
+        id.c,
+        id.h,
+        id.r,
+        id.n,
+        row.st1.bits,
+        row.st2.bits,
+        low as u8,
+        high as u8,
     ];
     buffer::copy_in(table, at, &bytes);
 }
@@ -45,10 +50,7 @@ pub fn number_ids(ids: &mut [u8], c: u8, h: u8, n: u8, count: u8)
     requires { id_room ≤ length ids.old }
     ensures { ids.new ≡ over ids.old 0 (ids_for (ids_from c h n 1 count) []) }
 {
-    let mut left = count;
-    while 0 < left {
-        let id = [c, h, left, n];
-        buffer::copy_in(ids, 4 * (left as usize - 1), &id);
-        left -= 1;
+    for k in 0..count {
+        buffer::copy_in(ids, 4 * (k as usize), &[c, h, k + 1, n]);
     }
 }

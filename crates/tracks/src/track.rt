@@ -2,9 +2,9 @@
 ghost use Rattle.std.specs.Prelude.{◌≡◌, ◌≤◌, ◌<◌, drop};
 ghost use Rattle.tracks.specs.Block.{id_at, row_at, row_by, row_of, sector_of, stored_from, data_end, body_of, track_of, block_of};
 
-use fields::{Refusal, SectorId, St1, St2, Text, byte, read_string, word};
+use fields::{Refusal, SectorId, St1, St2, byte, read_string, word};
 
-#[derive(Clone, Copy)]
+#[derive(Clone, Copy, PartialEq, Eq)]
 pub enum Kind {
     Normal,
     Extended,
@@ -31,26 +31,16 @@ pub struct Row {
     pub stored: u16,
 }
 
-#[derive(Clone, Copy)]
-pub enum Block {
-    Refused(Refusal),
-    Head(Head),
-}
-
 // The ID at a place of a sector list.
 pub fn id_at(list: &[u8], at: usize) -> SectorId
     requires { at < 65536 }
     ensures { result ≡ id_at list.now at }
 {
-    let c = byte(list, at);
-    let h = byte(list, at + 1);
-    let r = byte(list, at + 2);
-    let n = byte(list, at + 3);
     SectorId {
-        c: c as u8,
-        h: h as u8,
-        r: r as u8,
-        n: n as u8,
+        c: byte(list, at) as u8,
+        h: byte(list, at + 1) as u8,
+        r: byte(list, at + 2) as u8,
+        n: byte(list, at + 3) as u8,
     }
 }
 
@@ -59,15 +49,15 @@ pub fn row_at(list: &[u8], at: usize) -> Row
     requires { at < 65536 }
     ensures { result ≡ row_at list.now at }
 {
-    let id = id_at(list, at);
-    let st1 = byte(list, at + 4);
-    let st2 = byte(list, at + 5);
-    let stored = word(list, at + 6);
     Row {
-        id,
-        st1: St1 { bits: st1 as u8 },
-        st2: St2 { bits: st2 as u8 },
-        stored: stored as u16,
+        id: id_at(list, at),
+        st1: St1 {
+            bits: byte(list, at + 4) as u8,
+        },
+        st2: St2 {
+            bits: byte(list, at + 5) as u8,
+        },
+        stored: word(list, at + 6) as u16,
     }
 }
 
@@ -77,17 +67,10 @@ fn row_by(kind: Kind, row: Row) -> Row
 {
     match kind {
         Kind::Extended => row,
-        Kind::Normal => {
-            let id = row.id;
-            let st1 = row.st1;
-            let st2 = row.st2;
-            Row {
-                id,
-                st1,
-                st2,
-                stored: id.len() as u16,
-            }
-        }
+        Kind::Normal => Row {
+            stored: row.id.len() as u16,
+            ..row
+        },
     }
 }
 
@@ -102,8 +85,7 @@ pub fn sector_row(kind: Kind, block: &[u8], k: u8) -> Row
 pub fn content<'a>(block: &'a [u8], place: usize, row: Row) -> &'a [u8]
     ensures { result.now ≡ (sector_of row (drop place block.now)).content }
 {
-    let stored = row.stored;
-    buffer::part(block, place, stored as usize)
+    buffer::part(block, place, row.stored as usize)
 }
 
 // The sum of the stored lengths of the first `count` entries.
@@ -111,11 +93,8 @@ fn stored_sum(kind: Kind, block: &[u8], count: u8) -> u32
     ensures { (result ≡ stored_from kind block.now 0 count) × (result ≤ 16711425) }
 {
     let mut sum: u32 = 0;
-    let mut k: u8 = 0;
-    while k < count {
-        let here = sector_row(kind, block, k);
-        sum += here.stored as u32;
-        k += 1;
+    for k in 0..count {
+        sum += sector_row(kind, block, k).stored as u32;
     }
     sum
 }
@@ -131,18 +110,18 @@ fn data_end(stored: u32) -> usize
 }
 
 // Reads a track block behind its signature: header, sector list and the room for the data.
-fn read_body(kind: Kind, block: &[u8]) -> Block
+fn read_body(kind: Kind, block: &[u8]) -> Result<Head, Refusal>
     ensures { result ≡ block_of (body_of kind block.now) }
 {
     if block.len() < 0x18 + 8 * byte(block, 0x15) {
-        return Block::Refused(Refusal::ShortImage);
+        return Err(Refusal::ShortImage);
     }
     let sectors = block[0x15];
     let stored = stored_sum(kind, block, sectors);
     if block.len() < data_end(stored) {
-        return Block::Refused(Refusal::ShortImage);
+        return Err(Refusal::ShortImage);
     }
-    Block::Head(Head {
+    Ok(Head {
         cylinder: block[0x10],
         side: block[0x11],
         size: block[0x14],
@@ -154,12 +133,11 @@ fn read_body(kind: Kind, block: &[u8]) -> Block
 }
 
 // Reads the track block that a slice begins with.
-pub fn read_track(kind: Kind, block: &[u8]) -> Block
+pub fn read_track(kind: Kind, block: &[u8]) -> Result<Head, Refusal>
     ensures { result ≡ block_of (track_of kind block.now) }
 {
-    match read_string(block, 0, b"Track-Info\r\n") {
-        Text::Refused(why) => Block::Refused(why),
-        Text::Other => Block::Refused(Refusal::NotATrack),
-        Text::Same => read_body(kind, block),
+    if !read_string(block, 0, b"Track-Info\r\n")? {
+        return Err(Refusal::NotATrack);
     }
+    read_body(kind, block)
 }

@@ -1,14 +1,6 @@
-use mathlib.Core.Path.{refl, sym}
-use borrow.Author.Rules.{rules}
-use Rattle.buffer.proofs.Overs.{over-nil}
-use Rattle.buffer.proofs.Loops.{copy-turn, copy_done}
+use Rattle.std.proofs.Common.{arith}
+use Rattle.buffer.proofs.Overs.{over-mid}
 use Rattle.buffer.proofs.copy_in.Goals as goal
 
-pub loop-i-init : goal.loop-i-init
-loop-i-init c = (search rules, (refl, sym (over-nil _ _)))
-
-pub loop-i-preserved : goal.loop-i-preserved
-loop-i-preserved c = search (rules, copy-turn)
-
 pub returns : goal.returns
-returns c = search (rules, copy_done)
+returns c = rw c.copy_from_slice.ensures.after (over-mid c.args.dst.now c.args.at _ c.args.src.now (omega arith))

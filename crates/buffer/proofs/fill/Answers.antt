@@ -1,14 +1,6 @@
-use mathlib.Core.Path.{refl, sym}
-use borrow.Author.Rules.{rules}
-use Rattle.buffer.proofs.Overs.{over-nil}
-use Rattle.buffer.proofs.Loops.{fill-turn, fill_done}
+use Rattle.std.proofs.Common.{arith, refl}
+use Rattle.buffer.proofs.Shifts.{filled-over}
 use Rattle.buffer.proofs.fill.Goals as goal
 
-pub loop-i-init : goal.loop-i-init
-loop-i-init c = (search rules, (refl, sym (over-nil _ _)))
-
-pub loop-i-preserved : goal.loop-i-preserved
-loop-i-preserved c = search (rules, fill-turn)
-
 pub returns : goal.returns
-returns c = search (rules, fill_done)
+returns c = filled-over c.args.dst.now _ c.args.at _ _ c.args.value _ (c.fill.ensures.after (λ y e. e)) refl (omega arith) c.requires

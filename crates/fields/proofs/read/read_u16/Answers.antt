@@ -1,14 +1,9 @@
-use native.Mathlib.Omega.{arith}
-use Rattle.fields.proofs.Readers.{whole, read_short, read_whole}
+use Rattle.fields.proofs.Readers.{read_short, read_whole}
+use Rattle.fields.proofs.Exits.{handed_on}
 use Rattle.fields.proofs.read.read_u16.Goals as goal
 
-pub returns-then-short : goal.returns-then-short
-returns-then-short c = read_short _ _ _ _ c.short.ensures c.if-short.true
-
-pub word-value-requires : goal.word-value-requires
-word-value-requires c =
-    let a = c.args in
-    omega (arith, whole 2 a.s.now a.at _ c.short.ensures c.if-short.false)
+pub returns-in_err-reach : goal.returns-in_err-reach
+returns-in_err-reach c = handed_on _ _ _ c.from_residual.ensures.1 (read_short _ _ _ _ c.reach.ensures.fits _ c.in_err-reach.was c.reach.ensures.short)
 
 pub returns : goal.returns
-returns c = read_whole _ _ _ _ c.short.ensures _ c.if-short.false c.word-value.ensures.0
+returns c = read_whole _ _ _ _ c.reach.ensures.fits _ _ c.in_ok-reach.was c.word.ensures.0

@@ -1,11 +1,7 @@
 use Prim.Native.Nat.{◌*◌}
-use native.Mathlib.Omega.{arith}
 use Rattle.image.specs.Dsk.{entries}
 use Rattle.image.proofs.Headers.{entries-most}
 use Rattle.image.proofs.walk.entries_of.Goals as goal
-
-pub overflow_mul-result : goal.overflow_mul-result
-overflow_mul-result c = omega (arith, entries-most _ _ c.byte-tracks.ensures.1 c.byte-sides.ensures.1)
 
 pub returns : goal.returns
 unfolding entries

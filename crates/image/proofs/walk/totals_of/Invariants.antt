@@ -2,8 +2,8 @@ use Prim.Native.Nat.{◌-◌}
 use Rattle.image.proofs.Steps.{Counted}
 use Rattle.image.proofs.walk.totals_of.Given as goal
 
-abbrev pub invariant-loop-why : goal.invariant-loop-why
-invariant-loop-why l = Counted l.image l.start l.walk l.tracks l.sectors l.bytes
+abbrev pub invariant-loop-rest : goal.invariant-loop-rest
+invariant-loop-rest l = Counted l.image l.initial.walk l.walk l.totals
 
-abbrev pub decreases-loop-why : goal.decreases-loop-why
-decreases-loop-why l = l.walk.entries - l.walk.entry
+abbrev pub decreases-loop-rest : goal.decreases-loop-rest
+decreases-loop-rest l = l.walk.entries - l.walk.entry

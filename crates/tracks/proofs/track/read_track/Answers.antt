@@ -1,12 +1,13 @@
-use mathlib.Core.Path.{sym, ◌∙◌}
+use Rattle.std.proofs.Common.{sym, ap, ◌∙◌, Ok}
+use Rattle.fields.proofs.Exits.{handed_on}
 use Rattle.tracks.proofs.Tracks.{track-short, track-other, track-body}
 use Rattle.tracks.proofs.track.read_track.Goals as goal
 
-pub returns-in-Refused : goal.returns-in-Refused
-returns-in-Refused c = track-short _ _ _ (sym c.read_string.ensures ∙ c.in-Refused.is)
+pub returns-in_err-read_string : goal.returns-in_err-read_string
+returns-in_err-read_string c = handed_on _ _ _ c.from_residual.ensures.1 (track-short _ _ _ (sym c.read_string.ensures ∙ c.in_err-read_string.was))
 
-pub returns-in-Other : goal.returns-in-Other
-returns-in-Other c = track-other _ _ (sym c.read_string.ensures ∙ c.in-Other.is)
+pub returns-then-not-branch : goal.returns-then-not-branch
+returns-then-not-branch c = track-other _ _ (sym c.read_string.ensures ∙ c.in_ok-read_string.was ∙ ap Ok c.if-not-branch.true)
 
-pub returns-in-Same : goal.returns-in-Same
-returns-in-Same c = track-body _ _ _ (sym c.read_string.ensures ∙ c.in-Same.is) c.read_body.ensures
+pub returns : goal.returns
+returns c = track-body _ _ _ (sym c.read_string.ensures ∙ c.in_ok-read_string.was ∙ ap Ok c.if-not-branch.false) c.read_body.ensures

@@ -5,8 +5,8 @@ pub returns : goal.returns
 unfolding row_at
 returns c =
     λ i. record {
-      id = c.id_at-id.ensures i;
-      st1 = record { bits = c.byte-st1.ensures.0 i };
-      st2 = record { bits = c.byte-st2.ensures.0 i };
-      stored = c.word-stored.ensures.0 i;
+      id = c.id_at.ensures i;
+      st1 = record { bits = c.byte.ensures.0 i };
+      st2 = record { bits = c.byte-2.ensures.0 i };
+      stored = c.word.ensures.0 i;
     }

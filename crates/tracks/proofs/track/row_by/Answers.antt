@@ -4,6 +4,3 @@ use Rattle.tracks.proofs.track.row_by.Goals as goal
 
 pub overflow_cast-result : goal.overflow_cast-result
 overflow_cast-result c = omega (arith, c.len.ensures, size-most c.args.row.id.n)
-
-pub returns-in-Normal : goal.returns-in-Normal
-returns-in-Normal c = let k = c in rw (k.in-Normal.is, c.len.ensures)

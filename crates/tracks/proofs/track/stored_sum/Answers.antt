@@ -10,7 +10,7 @@ loop-k-init c = sum-start _ _ _
 pub loop-k-preserved : goal.loop-k-preserved
 loop-k-preserved c =
     let d = c in
-    sum-again _ _ _ _ _ d.loop-k.invariant _ c.loop-k-test.true (ap (λ (r : Row). r.stored) c.sector_row-here.ensures) (omega arith)
+    sum-again _ _ _ _ _ d.loop-k.invariant _ c.loop-k-test.true (ap (λ (r : Row). r.stored) c.sector_row.ensures) (omega arith)
 
 pub returns : goal.returns
 returns c = (sum_done _ _ _ _ _ c.loop-k.invariant c.loop-k-test.false, omega arith)
