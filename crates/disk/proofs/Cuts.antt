@@ -16,13 +16,14 @@ use Rattle.store.specs.Search.{is_track, is_sector}
 use Rattle.store.specs.Store.{tracks_for, contents, data_of, sectors_at, sum_at, count_at, next_at, track_sum, track_at, tracks_at, bytes_at}
 use Rattle.tracks.specs.Rows.{row_for, sector_row, rows_for}
 use Rattle.disk.specs.Change.{change}
-use Rattle.store.specs.Spots.{track_here, row_here, track_spot, sector_spot}
+use Rattle.store.specs.Spots.{track_here, row_here, track_spot, sector_spot, spot}
 use Rattle.loading.specs.Laying.{track_for}
-use Rattle.store.specs.declared.find.Spot.TheVariants.{At}
 use Rattle.store.proofs.Rounds.{contents-length}
 use Rattle.store.proofs.Founds.{sectors-count}
 use Rattle.disk.proofs.Holds.{part-whole, sizes-are}
 use Rattle.loading.proofs.Lays.{tracks-append, track-length}
+use Rattle.store.proofs.Same.{some-same}
+use Rattle.store.specs.declared.find.Spot.{Spot}
 
 -- ---- a piece that is replaced
 
@@ -218,39 +219,39 @@ all-data (t ∷ ts) = ap (λ (l : List ℕ). contents t.sectors ++ l) (all-data 
 -- ---- what a search by place finds is the first match
 
 module _ (t b : List ℕ) where
-  pub row_first : (id : SectorId) (i at place k j a q : ℕ) → place + sum_at t at k ≤ length b → sector_spot t id i at place k ≡ At j a q
+  pub row_first : (id : SectorId) (i at place k j a q : ℕ) → place + sum_at t at k ≤ length b → sector_spot t id i at place k ≡ spot j a q
       → First (is_sector id) row_only (λ s. s.content) (sectors_at t b at place k) at place (sector_of (row_at t a) (drop q b)) a q
   unfolding sector_spot sectors_at sum_at row_at
   row_first id i at place zero j a q h e = never (cc)
   row_first id i at place (suc k) j a q h e =
       told (row_here t id at) refl e (row_first id (i + 1) (at + 8) (place + (row_at t at).stored) k j a q (omega arith))
     where
-      told : (v : Bool) → row_here t id at ≡ v → cond v (At i at place) (sector_spot t id (i + 1) (at + 8) (place + (row_at t at).stored) k) ≡ At j a q
-          → (sector_spot t id (i + 1) (at + 8) (place + (row_at t at).stored) k ≡ At j a q
+      told : (v : Bool) → row_here t id at ≡ v → cond v (spot i at place) (sector_spot t id (i + 1) (at + 8) (place + (row_at t at).stored) k) ≡ spot j a q
+          → (sector_spot t id (i + 1) (at + 8) (place + (row_at t at).stored) k ≡ spot j a q
           → First (is_sector id) row_only (λ s. s.content) (sectors_at t b (at + 8) (place + (row_at t at).stored) k) (at + 8) (place + (row_at t at).stored) (sector_of (row_at t a) (drop q b)) a q)
           → First (is_sector id) row_only (λ s. s.content) (sector_of (row_at t at) (drop place b) ∷ sectors_at t b (at + 8) (place + (row_at t at).stored) k) at place (sector_of (row_at t a) (drop q b)) a q
       told true w f r =
-          let ea : a ≡ at = cc in
-          let eq : q ≡ place = cc in
+          let ea : a ≡ at = sym (ap (λ (x : Spot). x.at) (some-same _ _ f)) in
+          let eq : q ≡ place = sym (ap (λ (x : Spot). x.place) (some-same _ _ f)) in
           rw (ea, eq) (first-here (is_sector id) row_only (λ s. s.content) _ _ at place w)
       told false w f r =
           first_past (is_sector id) row_only (λ s. s.content) _ _ at place 8 (row_at t at).stored _ a q w refl
           (part-whole t b place (row_at t at).stored (omega arith)) (r f)
 
-  pub track-first : (side cylinder i at place k j a q : ℕ) → place + bytes_at t at k ≤ length b → track_spot t side cylinder i at place k ≡ At j a q
+  pub track-first : (side cylinder i at place k j a q : ℕ) → place + bytes_at t at k ≤ length b → track_spot t side cylinder i at place k ≡ spot j a q
       → First (is_track side cylinder) track_for track_part (tracks_at t b at place k) at place (track_at t b a q) a q
   unfolding track_spot tracks_at bytes_at
   track-first side cylinder i at place zero j a q h e = never (cc)
   track-first side cylinder i at place (suc k) j a q h e =
       told (track_here t side cylinder at) refl e (track-first side cylinder (i + 1) (next_at t at) (place + track_sum t at) k j a q (omega arith))
     where
-      told : (v : Bool) → track_here t side cylinder at ≡ v → cond v (At i at place) (track_spot t side cylinder (i + 1) (next_at t at) (place + track_sum t at) k) ≡ At j a q
-          → (track_spot t side cylinder (i + 1) (next_at t at) (place + track_sum t at) k ≡ At j a q
+      told : (v : Bool) → track_here t side cylinder at ≡ v → cond v (spot i at place) (track_spot t side cylinder (i + 1) (next_at t at) (place + track_sum t at) k) ≡ spot j a q
+          → (track_spot t side cylinder (i + 1) (next_at t at) (place + track_sum t at) k ≡ spot j a q
           → First (is_track side cylinder) track_for track_part (tracks_at t b (next_at t at) (place + track_sum t at) k) (next_at t at) (place + track_sum t at) (track_at t b a q) a q)
           → First (is_track side cylinder) track_for track_part (track_at t b at place ∷ tracks_at t b (next_at t at) (place + track_sum t at) k) at place (track_at t b a q) a q
       told true w f r =
-          let ea : a ≡ at = cc in
-          let eq : q ≡ place = cc in
+          let ea : a ≡ at = sym (ap (λ (x : Spot). x.at) (some-same _ _ f)) in
+          let eq : q ≡ place = sym (ap (λ (x : Spot). x.place) (some-same _ _ f)) in
           rw (ea, eq) (first-here (is_track side cylinder) track_for track_part _ _ at place w)
       told false w f r =
           first_past (is_track side cylinder) track_for track_part (track_at t b at place) _ at place (6 + 8 * count_at t at) (track_sum t at) _ a q w

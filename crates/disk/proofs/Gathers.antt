@@ -15,12 +15,12 @@ use Rattle.tracks.proofs.Tracks.{down, whole_part}
 use Rattle.store.specs.Find.{find}
 use Rattle.store.specs.Search.{is_sector, numbered, joined, run_from}
 use Rattle.store.specs.Store.{contents, sectors_at}
-use Rattle.store.specs.Spots.{sector_spot}
+use Rattle.store.specs.Spots.{sector_spot, spot}
 use Rattle.disk.specs.Serving.{run_of, Rows, Gathered}
-use Rattle.store.specs.declared.find.Spot.{Spot}
-use Rattle.store.specs.declared.find.Spot.TheVariants.{Nothing, At}
 use Rattle.store.proofs.Founds.{row_at_spot, find-row, row_in}
 use Rattle.loading.proofs.Lays.{lay-on, lay-none}
+use Rattle.std.specs.Prelude.{Option, None}
+use Rattle.store.specs.declared.find.Spot.{Spot}
 
 run_step : (id : SectorId) (ss : List Sector) (r k : ℕ) → 0 < k
     → run_from id ss r k ≡ joined (find (is_sector (numbered id r)) ss) (run_from id ss (r + 1) (k - 1))
@@ -29,7 +29,6 @@ run_step id ss r = down (λ k j. run_from id ss r k ≡ joined (find (is_sector 
 
 -- what the loop knows at its head
 pub record Gathering (t b x₀ : List ℕ) (start first count : ℕ) (id : SectorId) (sectors : ℕ) (x : List ℕ) (filled k : ℕ) : Type 0 where
-  pub within : k ≤ sectors
   pub same : length x ≡ length x₀
   pub all : length (run_of t b start first count id (id.r + k) (sectors - k)) ≡ sectors - k
   pub fits : filled + length (contents (run_of t b start first count id (id.r + k) (sectors - k))) ≤ length x₀
@@ -37,20 +36,6 @@ pub record Gathering (t b x₀ : List ℕ) (start first count : ℕ) (id : Secto
       ≡ over x₀ 0 (contents (run_of t b start first count id id.r sectors))
 
 module _ (t b x₀ : List ℕ) (start first count : ℕ) (id : SectorId) (sectors : ℕ) (g : Gathered t b start first count id sectors (length x₀)) where
-  pub gather-start : Gathering t b x₀ start first count id sectors x₀ 0 0
-  gather-start =
-      let p : id.r + 0 ≡ id.r = omega arith in
-      let q : sectors - 0 ≡ sectors = omega arith in
-      let e : run_of t b start first count id (id.r + 0) (sectors - 0) ≡ run_of t b start first count id id.r sectors =
-      λ i. run_of t b start first count id (p i) (q i) in
-      record {
-        within = omega arith;
-        same = refl;
-        all = rw e (omega (arith, g.all));
-        fits = rw e (omega (arith, g.fits));
-        pending = ap (λ (l : List Sector). over x₀ 0 (contents l)) e;
-      }
-
   module _ (x : List ℕ) (filled k : ℕ) (s : Gathering t b x₀ start first count id sectors x filled k) where
     pub gather-done : sectors ≤ k → x ≡ over x₀ 0 (contents (run_of t b start first count id id.r sectors))
     unfolding run_from contents
@@ -59,9 +44,9 @@ module _ (t b x₀ : List ℕ) (start first count : ℕ) (id : SectorId) (sector
         lay-none x filled (contents (run_of t b start first count id (id.r + k) (sectors - k))) _ s.pending
         (ap (λ (n : ℕ). contents (run_of t b start first count id (id.r + k) n)) q)
 
-    module _ (h : k < sectors) (w : SectorId) (ew : w ≡ numbered id (id.r + k)) (r : Spot) (er : r ≡ sector_spot t w 0 start first count) where
+    module _ (h : k < sectors) (w : SectorId) (ew : w ≡ numbered id (id.r + k)) (r : Option Spot) (er : r ≡ sector_spot t w 0 start first count) where
       -- what is left, by where the search for its first number ended
-      left_is : (y : Spot) → r ≡ y
+      left_is : (y : Option Spot) → r ≡ y
           → run_of t b start first count id (id.r + k) (sectors - k)
           ≡ joined (row_at_spot t b y) (run_of t b start first count id (id.r + (k + 1)) (sectors - (k + 1)))
       left_is y ey =
@@ -74,12 +59,12 @@ module _ (t b x₀ : List ℕ) (start first count : ℕ) (id : SectorId) (sector
           run_step id (sectors_at t b start first count) (id.r + k) (sectors - k) p
           ∙ (λ i. joined (f i) (run_from id (sectors_at t b start first count) (n i) (q i)))
 
-      pub gather-never : r ≡ Nothing → ⊥
+      pub gather-never : r ≡ None → ⊥
       gather-never e =
-          let l : length (run_of t b start first count id (id.r + k) (sectors - k)) ≡ 0 = ap length (left_is Nothing e) in
+          let l : length (run_of t b start first count id (id.r + k) (sectors - k)) ≡ 0 = ap length (left_is None e) in
           omega (arith, s.all)
 
-      module _ (i at place : ℕ) (e : r ≡ At i at place) (v : ℕ) (ev : v ≡ (row_at t at).stored) (c : List ℕ) (ec : c ≡ take v (drop place b)) where
+      module _ (i at place : ℕ) (e : r ≡ spot i at place) (v : ℕ) (ev : v ≡ (row_at t at).stored) (c : List ℕ) (ec : c ≡ take v (drop place b)) where
         content-is : c ≡ (sector_of (row_at t at) (drop place b)).content
         content-is = ec ∙ ap (λ (n : ℕ). take n (drop place b)) ev
 
@@ -88,7 +73,7 @@ module _ (t b x₀ : List ℕ) (start first count : ℕ) (id : SectorId) (sector
 
         parts : contents (run_of t b start first count id (id.r + k) (sectors - k)) ≡ c ++ contents rest
         unfolding contents rest
-        parts = ap contents (left_is (At i at place) e) ∙ ap (λ (l : List ℕ). l ++ contents (run_of t b start first count id (id.r + (k + 1)) (sectors - (k + 1)))) (sym content-is)
+        parts = ap contents (left_is (spot i at place) e) ∙ ap (λ (l : List ℕ). l ++ contents (run_of t b start first count id (id.r + (k + 1)) (sectors - (k + 1)))) (sym content-is)
 
         -- the sector finds room behind what is there
         pub gather-fits : filled + length c ≤ length x
@@ -100,9 +85,8 @@ module _ (t b x₀ : List ℕ) (start first count : ℕ) (id : SectorId) (sector
         unfolding rest
         gather-again lc x' ex =
             let l : length (contents (run_of t b start first count id (id.r + k) (sectors - k))) ≡ length c + length (contents rest) = ap length parts ∙ length-append c (contents rest) in
-            let n : length (run_of t b start first count id (id.r + k) (sectors - k)) ≡ suc (length rest) = ap length (left_is (At i at place) e) in
+            let n : length (run_of t b start first count id (id.r + k) (sectors - k)) ≡ suc (length rest) = ap length (left_is (spot i at place) e) in
             record {
-              within = omega arith;
               same = ap length ex ∙ over-length x filled c gather-fits ∙ s.same;
               all = omega (arith, s.all);
               fits = omega (arith, s.fits);
@@ -124,8 +108,8 @@ lent-over x at c y h e =
     (λ i. take at x ++ (f i ++ (drop-drop (length x - at) at x ∙ z) i)) ∙ ap (λ (l : List ℕ). take at x ++ l) (append-nil (c ++ drop (at + length c) x))
 
 -- a found row lies in the table, and its bytes in the data buffer
-module _ (t b : List ℕ) (start first count : ℕ) (rows : Rows t b start first count) (w : SectorId) (r : Spot) (er : r ≡ sector_spot t w 0 start first count)
-    (i at place : ℕ) (e : r ≡ At i at place) where
+module _ (t b : List ℕ) (start first count : ℕ) (rows : Rows t b start first count) (w : SectorId) (r : Option Spot) (er : r ≡ sector_spot t w 0 start first count)
+    (i at place : ℕ) (e : r ≡ spot i at place) where
   pub row_inside : at + 8 ≤ 17609
   row_inside = omega (arith, row_in t w 0 start first count i at place (sym er ∙ e), rows.inside)
 

@@ -9,7 +9,6 @@ use lib.Seq.{drop-cons, drop-drop}
 use Rattle.buffer.proofs.Overs.{over-front}
 use Rattle.buffer.specs.Over.{over}
 use Rattle.fields.specs.Bytes.{byte_at, number_at}
-use Rattle.fields.specs.Refusals.{good}
 use Rattle.fields.specs.Model.{Sector, Disk, total, sector_count, byte_count}
 use Rattle.tracks.specs.Block.{row_at, sector_of}
 use Rattle.store.specs.Store.{table_length, room_of, tracks_for, table_of, contents, data_of, sectors_at, sum_at, count_at, next_at, track_sum, tracks_at, counts_at, bytes_at, disk_of}
@@ -19,6 +18,7 @@ use Rattle.store.proofs.Sums.{end_is}
 use Rattle.store.proofs.Checks.{kept, disk-told}
 use Rattle.store.proofs.Founds.{sectors-count}
 use Rattle.store.proofs.Rounds.{size_in, table-length, data-length, tracks-before}
+use Rattle.std.specs.Prelude.{Ok}
 
 -- ---- how much is read
 
@@ -161,7 +161,7 @@ over-whole : (l s : List ℕ) (n : ℕ) → length s ≡ n → l ≡ s ++ drop n
 over-whole l s n e f = f ∙ ap (λ (i : ℕ). s ++ drop i l) (sym e) ∙ sym (over-front l s)
 
 module _ (t b : List ℕ) (d : Disk) where
-  pub fits : disk_of t b ≡ good d → Fits t b d
+  pub fits : disk_of t b ≡ Ok d → Fits t b d
   unfolding room_of
   fits e =
       let w = disk-told t b d e in
@@ -175,7 +175,7 @@ module _ (t b : List ℕ) (d : Disk) where
       })
 
   -- and it is laid there
-  pub is-laid : ((k : ℕ) → byte_at t k < 256) → disk_of t b ≡ good d → (t ≡ over t 0 (table_of d)) × (b ≡ over b 0 (data_of d))
+  pub is-laid : ((k : ℕ) → byte_at t k < 256) → disk_of t b ≡ Ok d → (t ≡ over t 0 (table_of d)) × (b ≡ over b 0 (data_of d))
   unfolding room_of table_of
   is-laid small e =
       let w = disk-told t b d e in

@@ -7,10 +7,10 @@ use mathlib.Core.Bool.{Bool, true, false, cond}
 use lib.ListN.{length, take, drop}
 use lib.Seq.{slice}
 use lib.Dec.{leb}
-use borrow.Author.Tests.{le-leb, lt-leb, leb-true}
+use borrow.Author.Tests.{leb-true}
 use Rattle.buffer.specs.Over.{over}
 use Rattle.fields.specs.Bytes.{byte_at}
-use Rattle.fields.specs.Refusals.{good, need}
+use Rattle.fields.specs.Refusals.{need, after}
 use Rattle.fields.specs.Model.{Sector, Track, Disk, byte_count}
 use Rattle.tracks.specs.Block.{row_at, sector_of}
 use Rattle.fields.specs.declared.id.SectorId.{SectorId}
@@ -23,22 +23,19 @@ use Rattle.tracks.specs.Rows.{rows_for}
 use Rattle.disk.specs.Change.{change, with_content, saved_in, saved}
 use Rattle.store.specs.Calls.{outcome, laid_as}
 use Rattle.disk.specs.Calls.{save_found, save_in, save_of}
-use Rattle.store.specs.Spots.{track_spot, spot_in, store_spot, store_bearing, hit_of, store_hit, place_at, place_of}
+use Rattle.store.specs.Spots.{track_spot, spot_in, store_spot, store_bearing, hit_of, store_hit, place_at, place_of, spot}
 use Rattle.loading.specs.Laying.{track_for}
-use Rattle.disk.specs.Saving.{length_bytes, judged, plan_at, plan_of}
-use Rattle.store.specs.declared.find.Spot.{Spot}
-use Rattle.store.specs.declared.find.Spot.TheVariants.{Nothing, At}
-use Rattle.store.specs.declared.find.Place.{Place}
-use Rattle.store.specs.declared.find.Place.TheVariants as place
-use Rattle.disk.specs.declared.saving.Plan.{Plan}
-use Rattle.disk.specs.declared.saving.Plan.TheVariants as plan
-use Rattle.disk.specs.declared.answer.Saved.TheVariants as saving
+use Rattle.disk.specs.Saving.{length_bytes, judged}
 use Rattle.fields.proofs.Tests.{never}
 use Rattle.store.proofs.Checks.{kept, walkable, disk-bad, disk-good}
 use Rattle.store.proofs.Founds.{row_at_spot, sector-found, match-found, track-in, spot_in_lem}
 use Rattle.store.proofs.Rounds.{data-length}
 use Rattle.disk.proofs.Holds.{part-whole, bytes-are, is-laid}
 use Rattle.disk.proofs.Cuts.{Replaced, piece_of, behind, replaced-length, over-laid, splice-laid, change-length, First, first-row, first_part, row_only, track_part, all-rows, all-contents, all-tracks, all-data, row_first, track-first}
+use Rattle.std.specs.Prelude.{Result, Ok, Err, Option, Some, None}
+use Rattle.fields.specs.declared.refusal.Refusal.{Refusal}
+use Rattle.store.specs.declared.find.Place.{Place}
+use Rattle.store.specs.declared.find.Spot.{Spot}
 
 -- ---- the pieces
 
@@ -104,21 +101,21 @@ module _ (t b : List ℕ) (side cylinder : ℕ) (id : SectorId) (new : List ℕ)
   unfolding room_of
   end-in = let l = kept t (room_of b) e in (omega (arith, l.bytes), l.bytes)
 
-  module _ (i a q : ℕ) (f : At i a q ≡ store_spot t side cylinder id) where
+  module _ (i a q : ℕ) (f : spot i a q ≡ store_spot t side cylinder id) where
     pub save-pieces : Pieces side cylinder id new (held t b) (old_at t b a q) a q
     unfolding store_spot
     save-pieces = told (track_spot t side cylinder 0 1 0 (byte_at t 0)) refl (sym f)
       where
-        told : (s : Spot) → track_spot t side cylinder 0 1 0 (byte_at t 0) ≡ s → spot_in t id s ≡ At i a q
+        told : (s : Option Spot) → track_spot t side cylinder 0 1 0 (byte_at t 0) ≡ s → spot_in t id s ≡ spot i a q
             → Pieces side cylinder id new (held t b) (old_at t b a q) a q
-        told Nothing g p = never (cc)
-        told (At j x y) g p =
-            let h = track-in t side cylinder 0 1 0 (byte_at t 0) j x y g in
-            let k = track-first t b side cylinder 0 1 0 (byte_at t 0) j x y end-in.0 g in
-            let r = row_first t b id 0 (x + 6) y (count_at t x) i a q (omega (arith, h.1, end-in.0)) p in
+        told None g p = never (cc)
+        told (Some sp) g p =
+            let h = track-in t side cylinder 0 1 0 (byte_at t 0) sp.index sp.at sp.place g in
+            let k = track-first t b side cylinder 0 1 0 (byte_at t 0) sp.index sp.at sp.place end-in.0 g in
+            let r = row_first t b id 0 (sp.at + 6) sp.place (count_at t sp.at) i a q (omega (arith, h.1, end-in.0)) p in
             record {
-              bytes = bytes-replaced side cylinder id new (held t b) (track_at t b x y) (sector_of (row_at t a) (drop q b)) x y a q k r;
-              row = length-replaced side cylinder id new (held t b) (track_at t b x y) (sector_of (row_at t a) (drop q b)) x y a q k r;
+              bytes = bytes-replaced side cylinder id new (held t b) (track_at t b sp.at sp.place) (sector_of (row_at t a) (drop q b)) sp.at sp.place a q k r;
+              row = length-replaced side cylinder id new (held t b) (track_at t b sp.at sp.place) (sector_of (row_at t a) (drop q b)) sp.at sp.place a q k r;
             }
 
     -- the row and the bytes lie inside
@@ -144,111 +141,97 @@ module _ (t b : List ℕ) (side cylinder : ℕ) (id : SectorId) (new : List ℕ)
         let to : q + (row_at t a).stored ≡ q + length (old_at t b a q) = ap (λ (n : ℕ). q + n) (sym old-long) in
         (over-laid t save-pieces.row h.0 refl, splice-laid b save-pieces.bytes h.1 _ (used t) to (sym data-long))
 
--- ---- how a plan is made
+-- ---- what a save answers and leaves
 
--- the answers of `judge`
-module _ (m : Match) (row from to end count room : ℕ) where
-  pub judged-long : 65535 < count → plan.Refused NoRoom ≡ judged m row from to end count room
-  unfolding judged
-  judged-long h = simp (lt-leb _ _ h)
-
-  module _ (h : count ≤ 65535) where
-    pub judged-full : room < end - (to - from) + count → plan.Refused NoRoom ≡ judged m row from to end count room
-    unfolding judged
-    judged-full l = simp (le-leb _ _ h, lt-leb _ _ l)
-
-    pub judged-good : end - (to - from) + count ≤ room → plan.Put m row from to end ≡ judged m row from to end count room
-    unfolding judged
-    judged-good l = simp (le-leb _ _ h, le-leb _ _ l)
-
--- and those of `prepare`, by where the sector stands
-pub planned : (t b : List ℕ) (side cylinder : ℕ) (id : SectorId) (count : ℕ) (r p : Place) → r ≡ place_of t b side cylinder id → r ≡ p
-    → plan_at count (room_of b) p ≡ plan_of t b side cylinder id count
-unfolding plan_of
-planned t b side cylinder id count r p e f = ap (plan_at count (room_of b)) (sym f ∙ e)
-
--- and where it was judged by the room
-pub planned-at : (t b : List ℕ) (side cylinder : ℕ) (id : SectorId) (count : ℕ) (r : Place) → r ≡ place_of t b side cylinder id
-    → (m : Match) (row from to end : ℕ) → r ≡ place.Part m row from to end
-    → (room : ℕ) (p : Plan) → room ≡ room_of b → p ≡ judged m row from to end count room → p ≡ plan_of t b side cylinder id count
-planned-at t b side cylinder id count r e m row from to end f room p g h =
-    h ∙ ap (judged m row from to end count) g ∙ planned t b side cylinder id count r (place.Part m row from to end) e f
-
--- ---- what a plan says
+-- where a save goes on: refused, missing, or to the place of the sector, if that can take so many bytes
+abbrev pub plan_at : ℕ → ℕ → Result (Option Place) Refusal → Result (Option Place) Refusal
+plan_at count room (Err why) = Err why
+plan_at count room (Ok None) = Ok None
+plan_at count room (Ok (Some p)) = after (judged p count room) (λ u. Ok (Some p))
 
 -- what `splice` and `put_length` ask where a sector takes so many bytes
-pub record Room (t b : List ℕ) (count row from to end : ℕ) : Type 0 where
-  pub row_in : row + 8 ≤ length t
+pub record Room (t b : List ℕ) (count : ℕ) (p : Place) : Type 0 where
+  pub row_in : p.row + 8 ≤ length t
   pub small : count < 65536
-  pub order : to ≤ end
-  pub inside : end ≤ length b
-  pub room : from + count + (end - to) ≤ length b
+  pub order : p.to ≤ p.end
+  pub inside : p.end ≤ length b
+  pub room : p.from + count + (p.end - p.to) ≤ length b
 
 module _ (t b : List ℕ) (side cylinder : ℕ) (id : SectorId) (new : List ℕ) where
-  -- what it says of the save: refused, missing, or what is left where the two pieces are put
-  abbrev pub Says : Plan → Type 0
-  Says (plan.Refused why) = outcome (saving.Refused why) t b ≡ save_of t b side cylinder id new
-  Says plan.Missing = outcome saving.Missing t b ≡ save_of t b side cylinder id new
-  Says (plan.Put m row from to end) = Room t b (length new) row from to end × (((k : ℕ) → byte_at t k < 256) → (t' b' : List ℕ)
-      → t' ≡ over t (row + 6) (length_bytes (length new)) → b' ≡ over b from (new ++ slice to end b) → outcome (saving.Good m) t' b' ≡ save_of t b side cylinder id new)
+  -- what that says of the save: refused, missing, or what is left where the two pieces are put
+  abbrev pub Says : Result (Option Place) Refusal → Type 0
+  Says (Err why) = outcome (Err why) t b ≡ save_of t b side cylinder id new
+  Says (Ok None) = outcome (Ok None) t b ≡ save_of t b side cylinder id new
+  Says (Ok (Some p)) = Room t b (length new) p × (((k : ℕ) → byte_at t k < 256) → (t' b' : List ℕ)
+      → t' ≡ over t (p.row + 6) (length_bytes (length new)) → b' ≡ over b p.from (new ++ slice p.to p.end b) → outcome (Ok (Some p.which)) t' b' ≡ save_of t b side cylinder id new)
 
   module _ (e : well_laid t (room_of b) ≡ true) where
     -- a save by where the search ended
-    save-found : (n : ℕ) (s : Spot) → n ≡ store_bearing t side cylinder id → s ≡ store_spot t side cylinder id → save_of t b side cylinder id new
+    save-found : (n : ℕ) (s : Option Spot) → n ≡ store_bearing t side cylinder id → s ≡ store_spot t side cylinder id → save_of t b side cylinder id new
         ≡ save_found t b (length new) (match_of n (row_at_spot t b s)) (saved side cylinder id new (held t b)) (row_at_spot t b s)
     unfolding save_of
     save-found n s g f =
         let x = sector-found t b side cylinder id ∙ ap (row_at_spot t b) (sym f) in
-        let y = match-found t b side cylinder id ∙ sym (ap₂ (λ (k : ℕ) (z : Spot). match_of k (row_at_spot t b z)) g f) in
+        let y = match-found t b side cylinder id ∙ sym (ap₂ (λ (k : ℕ) (z : Option Spot). match_of k (row_at_spot t b z)) g f) in
         ap (save_in t b side cylinder id new) (disk-good t b e)
         ∙ ap₂ (λ (m : Match) (z : Found Sector). save_found t b (length new) m (saved side cylinder id new (held t b)) z) y x
 
-    module _ (n i a q : ℕ) (g : n ≡ store_bearing t side cylinder id) (f : At i a q ≡ store_spot t side cylinder id) where
+    module _ (n i a q : ℕ) (g : n ≡ store_bearing t side cylinder id) (f : spot i a q ≡ store_spot t side cylinder id) where
+      here : Place
+      here = record { which = record { place = i + 1; count = n }; row = a; from = q; to = q + (row_at t a).stored; end = used t }
+
       -- and by the two tests
       save-tested : (x y : Bool) → leb (length new) 65535 ≡ x → leb (used t - (row_at t a).stored + length new) (room_of b) ≡ y → save_of t b side cylinder id new
-          ≡ laid_as saving.Refused (saving.Good (record { place = i + 1; count = n })) t b
-          (need x NoRoom (need y NoRoom (good (saved side cylinder id new (held t b)))))
+          ≡ laid_as Err (Ok (Some (record { place = i + 1; count = n }))) t b
+          (need x NoRoom (need y NoRoom (Ok (saved side cylinder id new (held t b)))))
       save-tested x y p r =
-          save-found n (At i a q) g f
-          ∙ ap₂ (λ (v w : Bool). laid_as saving.Refused (saving.Good (record { place = i + 1; count = n })) t b (need v NoRoom (need w NoRoom (good (saved side cylinder id new (held t b))))))
+          save-found n (spot i a q) g f
+          ∙ ap₂ (λ (v w : Bool). laid_as Err (Ok (Some (record { place = i + 1; count = n }))) t b (need v NoRoom (need w NoRoom (Ok (saved side cylinder id new (held t b))))))
           p (ap (λ (n : ℕ). leb n (room_of b)) (save-count t b side cylinder id new e i a q f) ∙ r)
 
       save-room : length new ≤ 65535 → used t - (row_at t a).stored + length new ≤ room_of b
-          → Room t b (length new) a q (q + (row_at t a).stored) (used t)
-      unfolding room_of
+          → Room t b (length new) here
+      unfolding room_of here
       save-room h l =
           let w = end-in t b side cylinder id new e in
           let z = old-in t b side cylinder id new e i a q f in
           record { row_in = z.0; small = omega arith; order = z.1; inside = omega (arith, w.0); room = omega (arith, w.0, z.1) }
 
       save-put : (x y : Bool) → leb (length new) 65535 ≡ x → leb (used t - (row_at t a).stored + length new) (room_of b) ≡ y
-          → Says (cond x (cond y (plan.Put (record { place = i + 1; count = n }) a q (q + (row_at t a).stored) (used t)) (plan.Refused NoRoom)) (plan.Refused NoRoom))
+          → Says (after (need x NoRoom (need y NoRoom (Ok (tt {0})))) (λ u. Ok (Some here)))
+      unfolding here
       save-put false y p r = sym (save-tested false y p r)
       save-put true false p r = sym (save-tested true false p r)
       save-put true true p r = (
         save-room (leb-true _ _ p) (leb-true _ _ r),
         λ small t' b' et eb.
             let l = save-laid t b side cylinder id new e i a q f small in
-            (λ k. outcome (saving.Good (record { place = i + 1; count = n })) ((et ∙ l.0) k) ((eb ∙ l.1) k)) ∙ sym (save-tested true true p r),
+            (λ k. outcome (Ok (Some (record { place = i + 1; count = n }))) ((et ∙ l.0) k) ((eb ∙ l.1) k)) ∙ sym (save-tested true true p r),
       )
 
-    spot-says : (n : ℕ) (s : Spot) → n ≡ store_bearing t side cylinder id → s ≡ store_spot t side cylinder id
+    spot-says : (n : ℕ) (s : Option Spot) → n ≡ store_bearing t side cylinder id → s ≡ store_spot t side cylinder id
         → Says (plan_at (length new) (room_of b) (place_at t (hit_of n s)))
-    unfolding judged
-    spot-says n Nothing g f = sym (save-found n Nothing g f)
-    spot-says n (At i a q) g f =
-        let z : q + (row_at t a).stored - q ≡ (row_at t a).stored = omega arith in
-        rw z (save-put n i a q g f (leb (length new) 65535) (leb (used t - (row_at t a).stored + length new) (room_of b)) refl refl)
+    unfolding judged save-put
+    spot-says n None g f = sym (save-found n None g f)
+    spot-says n (Some sp) g f =
+        let z : sp.place + (row_at t sp.at).stored - sp.place ≡ (row_at t sp.at).stored = omega arith in
+        rw z (save-put n sp.index sp.at sp.place g f (leb (length new) 65535) (leb (used t - (row_at t sp.at).stored + length new) (room_of b)) refl refl)
 
-  pub plan-says : Says (plan_of t b side cylinder id (length new))
-  unfolding plan_of place_of store_hit
+  plan-says : Says (plan_at (length new) (room_of b) (place_of t b side cylinder id))
+  unfolding place_of store_hit
   plan-says = told (well_laid t (room_of b)) refl
     where
       told : (v : Bool) → well_laid t (room_of b) ≡ v
-          → Says (plan_at (length new) (room_of b) (cond v (place_at t (store_hit t side cylinder id)) (place.Refused BadStore)))
+          → Says (plan_at (length new) (room_of b) (cond v (place_at t (store_hit t side cylinder id)) (Err BadStore)))
       told true e = spot-says e (store_bearing t side cylinder id) (store_spot t side cylinder id) refl refl
       told false e = unfold save_of in ap (save_in t b side cylinder id new) (sym (disk-bad t b e))
 
-  -- to a caller that took the plan apart
-  pub says_of : (r p : Plan) → r ≡ plan_of t b side cylinder id (length new) → r ≡ p → Says p
-  says_of r p e f = subst Says (sym e ∙ f) plan-says
+  -- to a caller that has the answer of the search
+  pub says_of : (r p : Result (Option Place) Refusal) → r ≡ place_of t b side cylinder id → r ≡ p → Says (plan_at (length new) (room_of b) p)
+  says_of r p e f = subst (λ (x : Result (Option Place) Refusal). Says (plan_at (length new) (room_of b) x)) (sym e ∙ f) plan-says
+
+  -- and that of the judge
+  pub says-judged : (r : Result (Option Place) Refusal) (p : Place) → r ≡ place_of t b side cylinder id → r ≡ Ok (Some p)
+      → (room : ℕ) → room ≡ room_of b → (j x : Result (Unit {0}) Refusal) → j ≡ judged p (length new) room → j ≡ x → Says (after x (λ u. Ok (Some p)))
+  says-judged r p e f room er j x g h =
+      subst (λ (y : Result (Unit {0}) Refusal). Says (after y (λ u. Ok (Some p)))) (sym (g ∙ ap (judged p (length new)) er) ∙ h) (says_of r (Ok (Some p)) e f)

@@ -20,27 +20,26 @@ use Rattle.fields.proofs.Tests.{never}
 use Rattle.store.specs.Find.{Found, nothing, found, find_from, find}
 use Rattle.store.specs.Search.{is_sector, is_track, match_in, match_at, numbered, joined, run_from, read_in, read_at}
 use Rattle.store.specs.Store.{transfer_room, contents, sectors_at, sum_at, count_at, tracks_at, room_of, well_laid}
-use Rattle.store.specs.Spots.{row_here, sector_spot, track_spot, row_hit}
+use Rattle.store.specs.Spots.{row_here, sector_spot, track_spot, row_hit, hit_at, spot}
 use Rattle.disk.specs.Calls.{filled, reading_of, filled_of, read_of}
 use Rattle.disk.specs.Serving.{row_first, more, extent_from, run_of, run_match, Rows, Gathered}
 use Rattle.store.specs.declared.answer.Match.{Match}
-use Rattle.store.specs.declared.find.Hit.{Hit}
-use Rattle.store.specs.declared.find.Hit.TheVariants as hit
-use Rattle.store.specs.declared.find.Spot.{Spot}
-use Rattle.store.specs.declared.find.Spot.TheVariants.{Nothing, At}
 use Rattle.disk.specs.declared.serve.Extent.{Extent}
-use Rattle.disk.specs.declared.answer.Reading.{Reading}
-use Rattle.disk.specs.declared.answer.Reading.TheVariants as reading
 use Rattle.store.proofs.Founds.{row_at_spot, track_at_spot, find-row, find-track, HitSpot, hit-missing, hit-spot, track-in, track-rows}
 use Rattle.store.proofs.Checks.{kept, walkable, disk-bad, disk-good}
 use Rattle.disk.proofs.Gathers.{row_inside, bytes_whole}
+use Rattle.std.specs.Prelude.{Result, Ok, Err, Option, Some, None}
+use Rattle.fields.specs.declared.refusal.Refusal.{Refusal}
+use Rattle.store.specs.declared.find.Hit.{Hit}
+use Rattle.disk.specs.declared.answer.Served.{Served}
+use Rattle.store.specs.declared.find.Spot.{Spot}
 
 -- ---- the run of the model
 
 -- where a search by place ended, as the place of a row
-abbrev place_of : Spot → Found ℕ
-place_of Nothing = nothing
-place_of (At i at place) = found 0 at
+abbrev place_of : Option Spot → Found ℕ
+place_of None = nothing
+place_of (Some sp) = found 0 sp.at
 
 first-spot : (t : List ℕ) (w : SectorId) (i at place k : ℕ) → row_first t w at k ≡ place_of (sector_spot t w i at place k)
 unfolding row_first sector_spot
@@ -48,7 +47,7 @@ first-spot t w i at place zero = refl
 first-spot t w i at place (suc k) = told (row_here t w at) (first-spot t w (i + 1) (at + 8) (place + (row_at t at).stored) k)
   where
     told : (h : Bool) → row_first t w (at + 8) k ≡ place_of (sector_spot t w (i + 1) (at + 8) (place + (row_at t at).stored) k)
-        → cond h (found 0 at) (row_first t w (at + 8) k) ≡ place_of (cond h (At i at place) (sector_spot t w (i + 1) (at + 8) (place + (row_at t at).stored) k))
+        → cond h (found 0 at) (row_first t w (at + 8) k) ≡ place_of (cond h (spot i at place) (sector_spot t w (i + 1) (at + 8) (place + (row_at t at).stored) k))
     told true e = refl
     told false e = e
 
@@ -128,32 +127,32 @@ module _ (t b : List ℕ) (start first count : ℕ) (rows : Rows t b start first
       ∙ told (sector_spot t (numbered id r) 0 start first count) refl
       ∙ ap extent_of (sym (run-spot r k))
     where
-      told : (y : Spot) → sector_spot t (numbered id r) 0 start first count ≡ y
+      told : (y : Option Spot) → sector_spot t (numbered id r) 0 start first count ≡ y
           → more t (place_of y) (extent_of (run_of t b start first count id (r + 1) k)) ≡ extent_of (joined (row_at_spot t b y) (run_of t b start first count id (r + 1) k))
-      told Nothing q = refl
-      told (At i at place) q =
+      told None q = refl
+      told (Some sp) q =
           let ss : List Sector = run_of t b start first count id (r + 1) k in
-          let c : List ℕ = take (row_at t at).stored (drop place b) in
-          let w : length c ≡ (row_at t at).stored = bytes_whole t b start first count rows (numbered id r) (At i at place) (sym q) i at place refl (row_at t at).stored refl c refl in
+          let c : List ℕ = take (row_at t sp.at).stored (drop sp.place b) in
+          let w : length c ≡ (row_at t sp.at).stored = bytes_whole t b start first count rows (numbered id r) (spot sp.index sp.at sp.place) (sym q) sp.index sp.at sp.place refl (row_at t sp.at).stored refl c refl in
           let x : length ss + 1 ≡ suc (length ss) = omega arith in
-          let y : (row_at t at).stored + length (contents ss) ≡ length (c ++ contents ss) = omega (arith, w, length-append c (contents ss)) in
+          let y : (row_at t sp.at).stored + length (contents ss) ≡ length (c ++ contents ss) = omega (arith, w, length-append c (contents ss)) in
           λ j. record { sectors = x j; total = y j }
 
   -- the row of the first sector stands in the table
-  pub served-row : (r : Hit) → r ≡ row_hit t id start first count → (w : Match) (at place : ℕ) → r ≡ hit.At w at place → at + 8 ≤ 17609
+  pub served-row : (r : Option Hit) → r ≡ row_hit t id start first count → (w : Match) (at place : ℕ) → r ≡ hit_at w at place → at + 8 ≤ 17609
   served-row r er w at place e =
       let h = hit-spot t b id start first count w at place (sym e ∙ er) in
-      row_inside t b start first count rows id (At h.index at place) h.spot h.index at place refl
+      row_inside t b start first count rows id (spot h.index at place) h.spot h.index at place refl
 
   module _ (eot : ℕ) where
-    pub serve-missing : hit.Nothing ≡ row_hit t id start first count → (x : List ℕ)
-        → filled reading.Missing x ≡ filled_of x (run_match t b start first count id) (run_of t b start first count id id.r (suc (eot - id.r)))
+    pub serve-missing : None ≡ row_hit t id start first count → (x : List ℕ)
+        → filled (Ok None) x ≡ filled_of x (run_match t b start first count id) (run_of t b start first count id id.r (suc (eot - id.r)))
     serve-missing e x =
         let q : run_of t b start first count id id.r (suc (eot - id.r)) ≡ [] =
-        run-spot id.r (eot - id.r) ∙ ap (λ (y : Spot). joined (row_at_spot t b y) (run_of t b start first count id (id.r + 1) (eot - id.r))) (sym (hit-missing t b id start first count e)) in
+        run-spot id.r (eot - id.r) ∙ ap (λ (y : Option Spot). joined (row_at_spot t b y) (run_of t b start first count id (id.r + 1) (eot - id.r))) (sym (hit-missing t b id start first count e)) in
         rw q
 
-    module _ (r : Hit) (er : r ≡ row_hit t id start first count) (w : Match) (at place : ℕ) (e : r ≡ hit.At w at place)
+    module _ (r : Option Hit) (er : r ≡ row_hit t id start first count) (w : Match) (at place : ℕ) (e : r ≡ hit_at w at place)
         (last : ℕ) (el : last ≡ max id.r eot) (m : Extent) (em : m ≡ extent_from t id start count id.r (suc (last - id.r))) where
       here : HitSpot t b id start first count w at place
       here = hit-spot t b id start first count w at place (sym e ∙ er)
@@ -163,7 +162,7 @@ module _ (t b : List ℕ) (start first count : ℕ) (rows : Rows t b start first
           ≡ sector_of (row_at t at) (drop place b) ∷ run_of t b start first count id (id.r + 1) (eot - id.r)
       head-is =
           run-spot id.r (eot - id.r)
-          ∙ ap (λ (y : Spot). joined (row_at_spot t b y) (run_of t b start first count id (id.r + 1) (eot - id.r))) (sym here.spot)
+          ∙ ap (λ (y : Option Spot). joined (row_at_spot t b y) (run_of t b start first count id (id.r + 1) (eot - id.r))) (sym here.spot)
 
       extent-is : m ≡ extent_of (run_of t b start first count id id.r (suc (eot - id.r)))
       extent-is =
@@ -200,18 +199,18 @@ module _ (t b : List ℕ) (start first count : ℕ) (rows : Rows t b start first
           ≡ cond (leb (length (contents (run_of t b start first count id id.r (suc (eot - id.r))))) (transfer_room x))
           (filled (reading_of (run_match t b start first count id) (sector_of (row_at t at) (drop place b)) (run_of t b start first count id (id.r + 1) (eot - id.r)))
           (over x 0 (contents (run_of t b start first count id id.r (suc (eot - id.r))))))
-          (filled (reading.Refused NoTransferRoom) x)
+          (filled (Err NoTransferRoom) x)
       serve_is x = rw head-is
 
       pub serve-refused : (x : List ℕ) (room : ℕ) → room ≡ transfer_room x → room < m.total
-          → filled (reading.Refused NoTransferRoom) x ≡ filled_of x (run_match t b start first count id) (run_of t b start first count id id.r (suc (eot - id.r)))
+          → filled (Err NoTransferRoom) x ≡ filled_of x (run_match t b start first count id) (run_of t b start first count id id.r (suc (eot - id.r)))
       serve-refused x room ex h =
           let l : transfer_room x < length (contents (run_of t b start first count id id.r (suc (eot - id.r)))) = omega (arith, total-is) in
           sym (serve_is x ∙ simp (lt-leb _ _ l))
 
       pub serve-good : (x : List ℕ) (room : ℕ) → room ≡ transfer_room x → m.total ≤ room → (row : Row) → row ≡ row_at t at → (size : ℕ) → size ≡ size_of id.n
           → (x' : List ℕ) → x' ≡ over x 0 (contents (run_of t b start first count id id.r m.sectors))
-          → filled (reading.Good (record { total = m.total; sizes = m.sectors * size; st1 = row.st1; st2 = row.st2; sector = w })) x'
+          → filled (Ok (Some (record { total = m.total; sizes = m.sectors * size; st1 = row.st1; st2 = row.st2; sector = w }))) x'
           ≡ filled_of x (run_match t b start first count id) (run_of t b start first count id id.r (suc (eot - id.r)))
       serve-good x room ex h row erow size esize x' ex' =
           let whole : List Sector = run_of t b start first count id id.r (suc (eot - id.r)) in
@@ -223,30 +222,30 @@ module _ (t b : List ℕ) (start first count : ℕ) (rows : Rows t b start first
           let a' : m.total ≡ length (contents (sector_of (row_at t at) (drop place b) ∷ run_of t b start first count id (id.r + 1) (eot - id.r))) = a ∙ ap (λ (z : List Sector). length (contents z)) head-is in
           let s' : m.sectors * size ≡ total (λ (y : Sector). size_of y.id.n) (sector_of (row_at t at) (drop place b) ∷ run_of t b start first count id (id.r + 1) (eot - id.r)) =
           s ∙ ap (total (λ (y : Sector). size_of y.id.n)) head-is in
-          (λ j. filled (reading.Good (record { total = a' j; sizes = s' j; st1 = (erow j).st1; st2 = (erow j).st2; sector = here.which j })) (y j))
+          (λ j. filled (Ok (Some (record { total = a' j; sizes = s' j; st1 = (erow j).st1; st2 = (erow j).st2; sector = here.which j }))) (y j))
           ∙ sym (serve_is x ∙ simp (le-leb _ _ l))
 
 -- ---- a read of a store
 
 module _ (t b x : List ℕ) (side cylinder eot : ℕ) (id : SectorId) where
-  pub read-bad : well_laid t (room_of b) ≡ false → filled (reading.Refused BadStore) x ≡ read_of t b side cylinder id eot x
+  pub read-bad : well_laid t (room_of b) ≡ false → filled (Err BadStore) x ≡ read_of t b side cylinder id eot x
   unfolding read_of
   read-bad e = rw (disk-bad t b e)
 
   module _ (e : well_laid t (room_of b) ≡ true) where
     -- what is read, by where the search for the track ended
-    read_is : (y : Spot) → y ≡ track_spot t side cylinder 0 1 0 (byte_at t 0) → read_of t b side cylinder id eot x ≡ filled_of x (match_in id (track_at_spot t b y)) (read_in id eot (track_at_spot t b y))
+    read_is : (y : Option Spot) → y ≡ track_spot t side cylinder 0 1 0 (byte_at t 0) → read_of t b side cylinder id eot x ≡ filled_of x (match_in id (track_at_spot t b y)) (read_in id eot (track_at_spot t b y))
     unfolding read_of read_at match_at
     read_is y ey =
         let f : find (is_track side cylinder) (tracks_at t b 1 0 (byte_at t 0)) ≡ track_at_spot t b y =
         find-track t b side cylinder 0 1 0 (byte_at t 0) ∙ ap (track_at_spot t b) (sym ey) in
         rw (disk-good t b e) (ap (λ (z : Found Track). filled_of x (match_in id z) (read_in id eot z)) f)
 
-    pub read_none : Nothing ≡ track_spot t side cylinder 0 1 0 (byte_at t 0) → filled reading.Missing x ≡ read_of t b side cylinder id eot x
+    pub read_none : None ≡ track_spot t side cylinder 0 1 0 (byte_at t 0) → filled (Ok None) x ≡ read_of t b side cylinder id eot x
     unfolding track_at_spot
-    read_none f = sym (read_is Nothing f)
+    read_none f = sym (read_is None f)
 
-    module _ (i at place n : ℕ) (f : At i at place ≡ track_spot t side cylinder 0 1 0 (byte_at t 0)) (en : n ≡ count_at t at) where
+    module _ (i at place n : ℕ) (f : spot i at place ≡ track_spot t side cylinder 0 1 0 (byte_at t 0)) (en : n ≡ count_at t at) where
       pub read-rows : n < 256 → Rows t b (at + 6) place n
       unfolding room_of
       read-rows h =
@@ -256,10 +255,10 @@ module _ (t b x : List ℕ) (side cylinder eot : ℕ) (id : SectorId) where
           let q : sum_at t (at + 6) n ≡ sum_at t (at + 6) (count_at t at) = ap (sum_at t (at + 6)) en in
           record { inside = omega (arith, w.0); few = h; total = w.1; held = omega (arith, p.1, k.bytes) }
 
-      pub read_found : (r : Reading) (x' : List ℕ)
+      pub read_found : (r : Result (Option Served) Refusal) (x' : List ℕ)
           → filled r x' ≡ filled_of x (run_match t b (at + 6) place n id) (run_of t b (at + 6) place n id id.r (suc (eot - id.r)))
           → filled r x' ≡ read_of t b side cylinder id eot x
       unfolding track_at_spot
       read_found r x' g =
           g ∙ ap (λ (m : ℕ). filled_of x (run_match t b (at + 6) place m id) (run_of t b (at + 6) place m id id.r (suc (eot - id.r)))) en
-          ∙ sym (read_is (At i at place) f)
+          ∙ sym (read_is (spot i at place) f)

@@ -1,14 +1,14 @@
 // Reading sectors into a transfer buffer.
-ghost use Rattle.std.specs.Prelude.{◌≡◌, ◌+◌, ◌-◌, ◌*◌, ◌<◌, ◌≤◌, suc, length};
+ghost use Rattle.std.specs.Prelude.{◌≡◌, ◌-◌, ◌≤◌, suc, length};
 ghost use Rattle.buffer.specs.Over.{over};
-ghost use Rattle.store.specs.Store.{contents, table_length};
+ghost use Rattle.store.specs.Store.{contents};
 ghost use Rattle.disk.specs.Calls.{filled, read_of};
 ghost use Rattle.disk.specs.Serving.{extent_from, Rows, Gathered, run_of, filled_at};
 
-use crate::answer::{Reading, Served};
+use crate::answer::Served;
 use fields::{Refusal, SectorId};
 use store::{
-    Hit, Spot, Tallied, first_sector, get_sector, get_track, greater, room_of, row_here, tally,
+    TrackRows, first_sector, get_sector, get_track, room_of, row_here, rows_of, tally,
     transfer_room,
 };
 
@@ -19,40 +19,30 @@ pub struct Extent {
     pub total: usize,
 }
 
-// Searches the numbers from the ID's own to `last` among `count` rows, up to the first that has no sector.
-fn measure(table: &[u8], start: usize, count: usize, id: SectorId, last: usize) -> Extent
-    requires { (start + 8 * count ≤ table_length) × ((count < 256) × ((id.r ≤ last) × (last < 256))) }
-    ensures { result ≡ extent_from table.now id start count id.r (suc (last - id.r)) }
+// Searches the numbers from the ID's own to `last` among the rows of a track, up to the first that has no sector.
+// A number that was found goes on at the label; one without a sector ends both loops.
+fn measure(table: &[u8], rows: TrackRows, id: SectorId, last: u8) -> Extent
+    requires { id.r ≤ last }
+    ensures { result ≡ extent_from table.now id rows.start rows.count id.r (suc (last - id.r)) }
 {
-    let mut number = id.r as usize;
     let mut sectors: usize = 0;
     let mut total: usize = 0;
-    'numbers: while number <= last {
-        let wanted = SectorId {
-            c: id.c,
-            h: id.h,
-            r: number as u8,
-            n: id.n,
-        };
-        let mut at = start;
-        let mut left = count;
-        while 0 < left {
+    'numbers: for r in id.r..=last {
+        let wanted = SectorId { r, ..id };
+        for k in 0..rows.count {
+            let at = rows.start + 8 * k;
             if row_here(table, at, wanted) {
-                let row = tracks::row_at(table, at);
-                total += row.stored as usize;
+                total += tracks::row_at(table, at).stored as usize;
                 sectors += 1;
-                number += 1;
                 continue 'numbers;
             }
-            at += 8;
-            left -= 1;
         }
         break 'numbers;
     }
     Extent { sectors, total }
 }
 
-// Copies one sector to the start of what is left of the transfer buffer.
+// Copies one sector to the start of what is left of the transfer buffer, which is lent from the end of the sector before (document 01).
 fn copy_sector(room: &mut [u8], content: &[u8])
     requires { length content.now ≤ length room.old }
     ensures { room.new ≡ over room.old 0 content.now }
@@ -64,41 +54,31 @@ fn copy_sector(room: &mut [u8], content: &[u8])
 fn gather(
     table: &[u8],
     bytes: &[u8],
-    start: usize,
-    first: usize,
-    count: usize,
+    rows: TrackRows,
     id: SectorId,
     sectors: usize,
     transfer: &mut [u8],
 )
-    requires { Gathered table.now bytes.now start first count id sectors (length transfer.old) }
+    requires { Gathered table.now bytes.now rows.start rows.first rows.count id sectors (length transfer.old) }
     ensures { transfer.new ≡ over transfer.old 0
-        (contents (run_of table.now bytes.now start first count id id.r sectors)) }
+        (contents (run_of table.now bytes.now rows.start rows.first rows.count id id.r sectors)) }
 {
     let mut total: usize = 0;
-    let mut k: usize = 0;
-    while k < sectors {
+    for k in 0..sectors {
         let number = (id.r as usize) + k;
         let wanted = SectorId {
-            c: id.c,
-            h: id.h,
             r: number as u8,
-            n: id.n,
+            ..id
         };
-        match get_sector(table, start, first, count, wanted) {
-            Spot::Nothing => return,
-            Spot::At {
-                index: _,
-                at,
-                place,
-            } => {
-                let row = tracks::row_at(table, at);
-                let stored = row.stored as usize;
-                copy_sector(&mut transfer[total..], buffer::part(bytes, place, stored));
-                total += stored;
-                k += 1;
-            }
-        }
+        let Some(spot) = get_sector(table, rows, wanted) else {
+            return;
+        };
+        let stored = tracks::row_at(table, spot.at).stored as usize;
+        copy_sector(
+            &mut transfer[total..],
+            buffer::part(bytes, spot.place, stored),
+        );
+        total += stored;
     }
 }
 
@@ -106,42 +86,33 @@ fn gather(
 fn read_rows(
     table: &[u8],
     bytes: &[u8],
-    start: usize,
-    first: usize,
-    count: usize,
+    rows: TrackRows,
     id: SectorId,
     eot: u8,
     transfer: &mut [u8],
-) -> Reading
-    requires { Rows table.now bytes.now start first count }
+) -> Result<Option<Served>, Refusal>
+    requires { Rows table.now bytes.now rows.start rows.first rows.count }
     ensures { filled result transfer.new
-        ≡ filled_at transfer.old table.now bytes.now start first count id eot }
+        ≡ filled_at transfer.old table.now bytes.now rows.start rows.first rows.count id eot }
 {
-    let Hit::At {
-        which,
-        row: at,
-        from: _,
-    } = first_sector(table, start, first, count, id)
-    else {
-        return Reading::Missing;
+    let Some(hit) = first_sector(table, rows, id) else {
+        return Ok(None);
     };
-    let last = greater(id.r as usize, eot as usize);
-    let extent = measure(table, start, count, id, last);
+    let last = id.r.max(eot);
+    let extent = measure(table, rows, id, last);
     if transfer_room(transfer) < extent.total {
-        return Reading::Refused(Refusal::NoTransferRoom);
+        return Err(Refusal::NoTransferRoom);
     }
     let sectors = extent.sectors;
-    gather(table, bytes, start, first, count, id, sectors, transfer);
-    let row = tracks::row_at(table, at);
-    let st1 = row.st1;
-    let st2 = row.st2;
-    Reading::Good(Served {
+    gather(table, bytes, rows, id, sectors, transfer);
+    let row = tracks::row_at(table, hit.row);
+    Ok(Some(Served {
         total: extent.total,
         sizes: sectors * id.len(),
-        st1,
-        st2,
-        sector: which,
-    })
+        st1: row.st1,
+        st2: row.st2,
+        sector: hit.which,
+    }))
 }
 
 // Reads the sector at an address and, up to `eot`, those that follow it by number, into the transfer buffer.
@@ -153,25 +124,13 @@ pub fn read(
     id: SectorId,
     eot: u8,
     transfer: &mut [u8],
-) -> Reading
+) -> Result<Option<Served>, Refusal>
     ensures { filled result transfer.new ≡ read_of table.now bytes.now side cylinder id eot transfer.old }
 {
-    match tally(table, room_of(bytes)) {
-        Tallied::Bad => Reading::Refused(Refusal::BadStore),
-        Tallied::Good {
-            sectors: _,
-            bytes: _,
-            end: _,
-        } => match get_track(table, side, cylinder) {
-            Spot::Nothing => Reading::Missing,
-            Spot::At {
-                index: _,
-                at,
-                place,
-            } => {
-                let count = fields::byte(table, at + 5);
-                read_rows(table, bytes, at + 6, place, count, id, eot, transfer)
-            }
-        },
-    }
+    tally(table, room_of(bytes))?;
+    let Some(track) = get_track(table, side, cylinder) else {
+        return Ok(None);
+    };
+    let rows = rows_of(table, track);
+    read_rows(table, bytes, rows, id, eot, transfer)
 }

@@ -1,4 +1,5 @@
 // Setting a track of a disk in a store, for Format.
+// Table and data buffer are two slices in each call (docs/DECISIONS.md, 115).
 #![tactic(auto)]
 
 mod set;

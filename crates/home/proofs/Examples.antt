@@ -4,7 +4,6 @@ use mathlib.Core.Bool.{false}
 use mathlib.Core.List.{[], ◌∷◌}
 use lib.ListN.{length}
 use Rattle.fields.specs.Bytes.{byte_at}
-use Rattle.fields.specs.Refusals.{good}
 use Rattle.fields.specs.Model.{Disk}
 use Rattle.buffer.specs.Over.{over}
 use Rattle.tracks.specs.Rows.{rows_for}
@@ -14,6 +13,7 @@ use Rattle.image.specs.Dsk.{dsk_of}
 use Rattle.home.specs.Home.{units, padded, track_info, block_for, blocks_for, cylinders_of, some_track, sides_of, sizes_over, size_table, disk_info, image_for}
 use Rattle.home.specs.Home.{rising_from, rising, side_over_1, entries_over_204, sectors_over_29, track_over_65280, unwritable}
 use Rattle.home.proofs.Homes.{home-back}
+use Rattle.std.specs.Prelude.{Ok}
 
 -- its length
 pub empty-home : length (image_for []) ≡ 256
@@ -31,7 +31,7 @@ unfolding unwritable rising side_over_1 entries_over_204 cylinders_of sides_of s
 empty-can = refl
 
 -- it is read as the empty disk
-pub empty_back : dsk_of (image_for []) ≡ good (record { kind = Extended; disk = [] })
+pub empty_back : dsk_of (image_for []) ≡ Ok (record { kind = Extended; disk = [] })
 empty_back = home-back [] empty-can
 
 -- cylinder 1 alone: side 0 with one sector of one byte, side 1 without sectors
@@ -58,5 +58,5 @@ small-can : unwritable small ≡ false
 unfolding unwritable rising rising_from side_over_1 entries_over_204 cylinders_of sides_of sectors_over_29 track_over_65280 some_track block_for track_info rows_for contents padded units
 small-can = refl
 
-pub small-back : dsk_of (image_for small) ≡ good (record { kind = Extended; disk = small })
+pub small-back : dsk_of (image_for small) ≡ Ok (record { kind = Extended; disk = small })
 small-back = home-back small small-can

@@ -12,7 +12,6 @@ use Rattle.buffer.specs.Over.{over}
 use Rattle.buffer.proofs.Overs.{over-length, over-set}
 use Rattle.buffer.proofs.Sames.{same_refl}
 use Rattle.fields.specs.Bytes.{byte_at, text_at}
-use Rattle.fields.specs.Refusals.{Result, good}
 use Rattle.fields.specs.Model.{Sector, Track, Disk, Each, track_bytes}
 use Rattle.fields.specs.declared.refusal.Refusal.TheVariants.{NoImage}
 use Rattle.fields.proofs.Tests.{need-good}
@@ -22,11 +21,11 @@ use Rattle.tracks.specs.declared.track.Kind.TheVariants.{Extended}
 use Rattle.image.specs.Dsk.{extended_text, image_kind, entries, header_of, entry_of, tracks_from, dsk_of}
 use Rattle.store.specs.Store.{contents, sectors_at, sum_at}
 use Rattle.store.proofs.Rounds.{rows_before, byte-back, sum_back, sectors-back, part-after}
-use Rattle.home.specs.Home.{units, padded, track_info, block_for, blocks_for, home_text, cylinders_of, sides_of, entry_for}
-use Rattle.home.specs.Home.{sizes_over, size_table, disk_info, image_for, unwritable, home_of}
-use Rattle.home.proofs.Sizes.{units-up, head-length, block-length, block_size, each_map, Fine}
-use Rattle.home.proofs.Sizes.{is-rising, entries-few, all-fine, table-long, disk-block-length, image-length}
+use Rattle.home.specs.Home.{units, padded, track_info, block_for, blocks_for, home_text, cylinders_of, sides_of, entry_for, sizes_over, size_table, disk_info, image_for, unwritable, home_of}
+use Rattle.home.proofs.Sizes.{units-up, head-length, block-length, block_size, each_map, Fine, is-rising, entries-few, all-fine, table-long, disk-block-length, image-length}
 use Rattle.home.proofs.Orders.{Ordered, rising-ordered}
+use Rattle.std.specs.Prelude.{Result, Ok}
+use Rattle.fields.specs.declared.refusal.Refusal.{Refusal}
 
 -- what pads bytes
 abbrev padding : List ℕ → List ℕ
@@ -87,7 +86,7 @@ module _ (t : Track) (few : length t.sectors ≤ 29) (rest : List ℕ) where
       ∙ padded-before (contents t.sectors) rest
 
   -- a block is read as its track
-  pub block_back : track_of Extended (block_for t ++ rest) ≡ good t
+  pub block_back : track_of Extended (block_for t ++ rest) ≡ Ok t
   unfolding track_of body_of text_at track_in
   block_back =
       let b : List ℕ = block_for t ++ rest in
@@ -109,7 +108,7 @@ module _ (t : Track) (few : length t.sectors ≤ 29) (rest : List ℕ) where
         filler = byte_at (head-is i) 0x17;
         sectors = back i;
       } in
-      simp (le-leb 12 (length b) (omega arith), text, le-leb _ _ inside, le-leb _ _ whole) (ap good same)
+      simp (le-leb 12 (length b) (omega arith), text, le-leb _ _ inside, le-leb _ _ whole) (ap Ok same)
 
 -- ---- the table
 
@@ -164,25 +163,25 @@ sizes-back sides n from (t ∷ ts) table k f o e =
 
 module _ (b : List ℕ) (i at left : ℕ) where
   -- an entry of 0 is passed over
-  skip-one : (r : Result Disk) → byte_at b (0x34 + i) ≡ 0 → tracks_from Extended b (i + 1) at left ≡ r → tracks_from Extended b i at (suc left) ≡ r
+  skip-one : (r : Result Disk Refusal) → byte_at b (0x34 + i) ≡ 0 → tracks_from Extended b (i + 1) at left ≡ r → tracks_from Extended b i at (suc left) ≡ r
   unfolding tracks_from entry_of
   skip-one r z e = rw z e
 
   -- at any other the track is read, and the next one stands its size further
-  read_one : (t : Track) (ts : Disk) (m : ℕ) → byte_at b (0x34 + i) ≡ suc m → track_of Extended (drop at b) ≡ good t
-      → tracks_from Extended b (i + 1) (at + 256 * suc m) left ≡ good ts → tracks_from Extended b i at (suc left) ≡ good (t ∷ ts)
+  read_one : (t : Track) (ts : Disk) (m : ℕ) → byte_at b (0x34 + i) ≡ suc m → track_of Extended (drop at b) ≡ Ok t
+      → tracks_from Extended b (i + 1) (at + 256 * suc m) left ≡ Ok ts → tracks_from Extended b i at (suc left) ≡ Ok (t ∷ ts)
   unfolding tracks_from entry_of
   read_one t ts m z r e = rw (z, r, e)
 
 module _ (b : List ℕ) (sides n : ℕ) where
   -- the tracks of the entries that are left are those whose blocks stand there
   tracks-back : (left i at : ℕ) (ts : Disk) → i + left ≡ n → Each (Fine sides n) ts → Ordered sides i ts
-      → ((k : ℕ) → i ≤ k → k < n → byte_at b (0x34 + k) ≡ size_or sides ts k 0) → drop at b ≡ blocks_for ts → tracks_from Extended b i at left ≡ good ts
+      → ((k : ℕ) → i ≤ k → k < n → byte_at b (0x34 + k) ≡ size_or sides ts k 0) → drop at b ≡ blocks_for ts → tracks_from Extended b i at left ≡ Ok ts
   unfolding Each Ordered tracks_from size_or blocks_for
   tracks-back zero i at [] e f o table blocks = refl
   tracks-back zero i at (t ∷ ts) e f o table blocks = absurd (omega (arith, o.0, f.0.entry))
   tracks-back (suc left) i at [] e f o table blocks =
-      skip-one b i at left (good []) (table i (omega arith) (omega arith))
+      skip-one b i at left (Ok []) (table i (omega arith) (omega arith))
       (tracks-back left (i + 1) at [] (omega arith) f o (λ k h l. table k (omega arith) l) blocks)
   tracks-back (suc left) i at (t ∷ ts) e f o table blocks =
       let m : ℕ = units (track_bytes t) in
@@ -195,9 +194,9 @@ module _ (b : List ℕ) (sides n : ℕ) where
       (λ h. tracks-back left (i + 1) at (t ∷ ts) next f (omega arith, o.1) (λ k h l. table k (omega arith) l) blocks)
     where
       by : (x : Bool) → eqb i (entry_for sides t) ≡ x
-          → (i ≡ entry_for sides t → tracks_from Extended b (i + 1) (at + 256 * suc (units (track_bytes t))) left ≡ good ts)
-          → (i < entry_for sides t → tracks_from Extended b (i + 1) at left ≡ good (t ∷ ts))
-          → tracks_from Extended b i at (suc left) ≡ good (t ∷ ts)
+          → (i ≡ entry_for sides t → tracks_from Extended b (i + 1) (at + 256 * suc (units (track_bytes t))) left ≡ Ok ts)
+          → (i < entry_for sides t → tracks_from Extended b (i + 1) at left ≡ Ok (t ∷ ts))
+          → tracks_from Extended b i at (suc left) ≡ Ok (t ∷ ts)
       by true y here later =
           let q : i ≡ entry_for sides t = eqb-true i (entry_for sides t) y in
           let few : length t.sectors ≤ 29 = f.0.fit.sectors in
@@ -207,7 +206,7 @@ module _ (b : List ℕ) (sides n : ℕ) where
       by false y here later =
           let q : i ≡ entry_for sides t → ⊥ = eqb-false i (entry_for sides t) y in
           let l : i < entry_for sides t = omega (arith, o.0) in
-          skip-one b i at left (good (t ∷ ts))
+          skip-one b i at left (Ok (t ∷ ts))
           (table i (omega arith) (omega arith) ∙ size-other sides t ts i 0 q ∙ size_below sides (entry_for sides t + 1) ts i 0 o.1 (omega arith)) (later l)
 
 -- ---- the image
@@ -230,7 +229,7 @@ module _ (d : Disk) (can : unwritable d ≡ false) where
   entries-are = ap (λ (l : List ℕ). byte_at l 0x30 * byte_at l 0x31) start_is
 
   -- the signature, and the table inside
-  header-good : header_of (image_for d) ≡ good Extended
+  header-good : header_of (image_for d) ≡ Ok Extended
   unfolding header_of image_kind text_at
   header-good =
       let long : 256 ≤ length (image_for d) = omega (arith, image-length d can) in
@@ -256,18 +255,18 @@ module _ (d : Disk) (can : unwritable d ≡ false) where
       ∙ ap (size_or (sides_of d) d k) (get_or-replicate n k 0 0 h)
 
   -- the image of a disk that is not refused is read as that disk, of the kind extended
-  pub home-back : dsk_of (image_for d) ≡ good (record { kind = Extended; disk = d })
+  pub home-back : dsk_of (image_for d) ≡ Ok (record { kind = Extended; disk = d })
   unfolding dsk_of
   home-back =
       let n : ℕ = cylinders_of d * sides_of d in
-      let tracks : tracks_from Extended (image_for d) 0 0x100 n ≡ good d =
+      let tracks : tracks_from Extended (image_for d) 0 0x100 n ≡ Ok d =
       tracks-back (image_for d) (sides_of d) n n 0 0x100 d (omega arith) (all-fine d can) ordered (λ k h l. table_is k l) blocks-are in
       rw (header-good, entries-are, tracks)
 
 -- the same of the answer
-pub home-reads : (d : Disk) (x : List ℕ) → home_of d ≡ good x → dsk_of x ≡ good (record { kind = Extended; disk = d })
+pub home-reads : (d : Disk) (x : List ℕ) → home_of d ≡ Ok x → dsk_of x ≡ Ok (record { kind = Extended; disk = d })
 unfolding home_of
 home-reads d x e =
-    let g = need-good (not (unwritable d)) NoImage (good (image_for d)) x e in
+    let g = need-good (not (unwritable d)) NoImage (Ok (image_for d)) x e in
     let q : image_for d ≡ x = cc g.1 in
     ap dsk_of (sym q) ∙ home-back d (not-true (unwritable d) g.0)

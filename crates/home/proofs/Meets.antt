@@ -1,62 +1,58 @@
 -- The pass that measures: what its loop knows, and its answers.
 use mathlib.Core.Path.{◌≡◌, refl, sym, ap, ◌∙◌}
-use Prim.Native.Nat.{ℕ, ◌+◌, ◌-◌, ◌*◌, ◌≤◌, ◌<◌, max}
+use Prim.Native.Nat.{ℕ, ◌+◌, ◌-◌, ◌*◌, ◌≤◌, ◌<◌}
 use native.Mathlib.Omega.{arith}
 use mathlib.Core.List.{List}
-use mathlib.Core.Bool.{Bool, true, false, cond, ◌&&◌, ◌||◌}
+use mathlib.Core.Bool.{Bool, true, false, cond}
 use lib.ListN.{length}
-use lib.Dec.{eqb, leb}
 use Rattle.fields.specs.Bytes.{byte_at}
 use Rattle.fields.specs.Capacities.{most_sectors, most_tracks}
 use Rattle.fields.proofs.Tests.{never}
 use Rattle.tracks.proofs.Tracks.{down}
 use Rattle.store.specs.Store.{table_length, sum_at, count_at, next_at, track_sum, counts_at, bytes_at, well_laid}
-use Rattle.store.specs.Spots.{end_at, tally_of}
-use Rattle.store.specs.declared.check.Tallied.TheVariants as tallied
+use Rattle.store.specs.Spots.{end_at, tally_of, tallied}
 use Rattle.store.proofs.Sums.{down-none, track-sum}
-use Rattle.store.proofs.Checks.{Tallying, tally-start, tally-again, bad-length, bad-tracks, bad_more, bad-end, good-end}
-use Rattle.home.specs.Home.{units}
-use Rattle.home.specs.Passes.{met_none, met_with, met_at, measured_of, Modest, sides_if, shape_by}
+use Rattle.store.proofs.Checks.{Tallying, tally-again, bad-length, bad-tracks, bad_more, bad-end, good-end}
+use Rattle.home.specs.Passes.{met_none, met_with, met_at, measured_of, Modest}
 use Rattle.home.specs.declared.measure.Met.{Met}
-use Rattle.home.specs.declared.measure.Measured.TheVariants as measured
-use Rattle.home.specs.declared.measure.Shaped.TheVariants as shaped
-use Rattle.fields.specs.declared.refusal.Refusal.TheVariants.{NoImage}
+use Rattle.fields.specs.declared.refusal.Refusal.TheVariants.{BadStore}
 use Rattle.home.proofs.Sizes.{units-up}
+use Rattle.std.specs.Prelude.{Ok, Err}
 
 -- ---- its answers, by the check of a store
 
 module _ (t : List ℕ) (room : ℕ) where
   -- the test behind the check's answer
-  laid-false : tallied.Bad ≡ tally_of t room → well_laid t room ≡ false
+  laid-false : (Err BadStore) ≡ tally_of t room → well_laid t room ≡ false
   unfolding tally_of
   laid-false e = told (well_laid t room) e
     where
-      told : (v : Bool) → tallied.Bad ≡ cond v (tallied.Good (counts_at t 1 (byte_at t 0)) (bytes_at t 1 (byte_at t 0)) (end_at t 1 (byte_at t 0))) tallied.Bad → v ≡ false
+      told : (v : Bool) → (Err BadStore) ≡ cond v (tallied (counts_at t 1 (byte_at t 0)) (bytes_at t 1 (byte_at t 0)) (end_at t 1 (byte_at t 0))) (Err BadStore) → v ≡ false
       told true q = never (cc)
       told false q = refl
 
-  laid-true : (x y z : ℕ) → tallied.Good x y z ≡ tally_of t room → well_laid t room ≡ true
+  laid-true : (x y z : ℕ) → tallied x y z ≡ tally_of t room → well_laid t room ≡ true
   unfolding tally_of
   laid-true x y z e = told (well_laid t room) e
     where
-      told : (v : Bool) → tallied.Good x y z
-          ≡ cond v (tallied.Good (counts_at t 1 (byte_at t 0)) (bytes_at t 1 (byte_at t 0)) (end_at t 1 (byte_at t 0))) tallied.Bad → v ≡ true
+      told : (v : Bool) → tallied x y z
+          ≡ cond v (tallied (counts_at t 1 (byte_at t 0)) (bytes_at t 1 (byte_at t 0)) (end_at t 1 (byte_at t 0))) (Err BadStore) → v ≡ true
       told true q = refl
       told false q = never (cc)
 
   -- a store that breaks the layout, and one that keeps it
-  measured-bad : tallied.Bad ≡ tally_of t room → (measured.Bad ≡ measured_of t room) × Modest measured.Bad
+  measured-bad : (Err BadStore) ≡ tally_of t room → ((Err BadStore) ≡ measured_of t room) × Modest (Err BadStore)
   unfolding measured_of
   measured-bad e = (rw (laid-false e) refl, tt)
 
-  measured-good : (x y z : ℕ) (m : Met) → tallied.Good x y z ≡ tally_of t room → m ≡ met_at t met_none 1 (byte_at t 0) → measured.Of m ≡ measured_of t room
+  measured-good : (x y z : ℕ) (m : Met) → tallied x y z ≡ tally_of t room → m ≡ met_at t met_none 1 (byte_at t 0) → Ok m ≡ measured_of t room
   unfolding measured_of
-  measured-good x y z m e f = rw (laid-true x y z e) (ap measured.Of f)
+  measured-good x y z m e f = rw (laid-true x y z e) (ap Ok f)
 
-  pub measured-length : (length t ≡ table_length → ⊥) → (measured.Bad ≡ measured_of t room) × Modest measured.Bad
+  pub measured-length : (length t ≡ table_length → ⊥) → ((Err BadStore) ≡ measured_of t room) × Modest (Err BadStore)
   measured-length h = measured-bad (bad-length t room h)
 
-  pub measured-tracks : (n : ℕ) → length t ≡ table_length → n ≡ byte_at t 0 → most_tracks < n → (measured.Bad ≡ measured_of t room) × Modest measured.Bad
+  pub measured-tracks : (n : ℕ) → length t ≡ table_length → n ≡ byte_at t 0 → most_tracks < n → ((Err BadStore) ≡ measured_of t room) × Modest (Err BadStore)
   measured-tracks n l e h = measured-bad (bad-tracks t room n l e h)
 
 -- ---- its loop
@@ -80,18 +76,6 @@ pub record Meeting (t : List ℕ) (left at sectors bytes : ℕ) (m : Met) : Type
   pub wide : m.cylinders ≤ 256
   pub long : m.long ≤ 256 + 512 * (204 - left) + bytes
 
--- what is met with one more track, its units and its cylinders worked out before
-pub met-is : (m : Met) (c s n b u g : ℕ) → u ≡ units b → g ≡ max m.cylinders (c + 1)
-    → (record {
-      next = c * 256 + s + 1;
-      fits = ((((m.fits && leb m.next (c * 256 + s)) && leb s 1) && leb n 29) && leb (256 + 256 * u) 65280);
-      cylinders = g;
-      second = m.second || eqb s 1;
-      long = m.long + (256 + 256 * u);
-    }) ≡ met_with m c s n b
-unfolding met_with
-met-is m c s n b u g e f = rw (e, f) refl
-
 -- one more track is no longer than its bytes and two units, and has its cylinder
 met-long : (m : Met) (c s n b : ℕ) → (met_with m c s n b).long ≤ m.long + 512 + b
 unfolding met_with
@@ -102,51 +86,32 @@ unfolding met_with
 met-wide m c s n b h k = omega arith
 
 module _ (t : List ℕ) where
-  pub meet-start : (k : ℕ) (m : Met) → k ≡ byte_at t 0 → length t ≡ table_length → k ≤ most_tracks → m ≡ met_none → Meeting t k 1 0 0 m
-  meet-start k m e l h f = rw f (record {
-    tally = tally-start t k e l h;
-    few = h;
-    met = ap (met_at t met_none 1) e;
-    wide = omega arith;
-    long = omega arith;
-  })
-
   module _ (left at sectors bytes : ℕ) (m : Met) (s : Meeting t left at sectors bytes m) where
     pub meet-again : (n b c e : ℕ) (m' : Met) → 0 < left → n ≡ count_at t at → sectors + n ≤ most_sectors → b ≡ sum_at t (at + 6) n → b ≤ 65535 * n
-        → c ≡ byte_at t at → c < 256 → e ≡ byte_at t (at + 1) → m' ≡ met_with m c e n b → Meeting t (left - 1) (at + (6 + 8 * n)) (sectors + n) (bytes + b) m'
-    meet-again n b c e m' h en few eb small ec wide ee em =
+        → c ≡ byte_at t at → c < 256 → e ≡ byte_at t (at + 1) → m' ≡ met_with m c e n b → (left' : ℕ) → left' ≡ left - 1
+        → Meeting t left' (at + (6 + 8 * n)) (sectors + n) (bytes + b) m'
+    meet-again n b c e m' h en few eb small ec wide ee em left' el =
         let sum : b ≡ track_sum t at = track-sum t at n b en eb in
         let with : m' ≡ met_with m (byte_at t at) (byte_at t (at + 1)) (count_at t at) (track_sum t at) = em ∙ (λ i. met_with m (ec i) (ee i) (en i) (sum i)) in
         let next : at + (6 + 8 * n) ≡ next_at t at = ap (λ (k : ℕ). at + (6 + 8 * k)) en in
         let longer : m'.long ≤ m.long + 512 + b = rw em (met-long m c e n b) in
-        record {
+        rw el (record {
           tally = tally-again t left at sectors bytes s.tally n b h en few eb small;
           few = omega (arith, s.few);
           met = (λ i. met_at t (with i) (next i) (left - 1)) ∙ sym (met-step t m at left h) ∙ s.met;
           wide = rw em (met-wide m c e n b s.wide wide);
           long = omega (arith, s.long, s.few);
-        }
+        })
 
     module _ (room : ℕ) where
-      pub measured-more : (n : ℕ) → 0 < left → n ≡ count_at t at → most_sectors < sectors + n → (measured.Bad ≡ measured_of t room) × Modest measured.Bad
+      pub measured-more : (n : ℕ) → 0 < left → n ≡ count_at t at → most_sectors < sectors + n → ((Err BadStore) ≡ measured_of t room) × Modest (Err BadStore)
       measured-more n h e k = measured-bad t room (bad_more t left at sectors bytes s.tally room n h e k)
 
-      pub measured-over : left ≤ 0 → room < bytes → (measured.Bad ≡ measured_of t room) × Modest measured.Bad
+      pub measured-over : left ≤ 0 → room < bytes → ((Err BadStore) ≡ measured_of t room) × Modest (Err BadStore)
       measured-over h k = measured-bad t room (bad-end t left at sectors bytes s.tally room h k)
 
-      pub measured-all : left ≤ 0 → bytes ≤ room → (measured.Of m ≡ measured_of t room) × Modest (measured.Of m)
+      pub measured-all : left ≤ 0 → bytes ≤ room → (Ok m ≡ measured_of t room) × Modest (Ok m)
       measured-all h k =
           let g = good-end t left at sectors bytes s.tally room h k in
           let small : bytes ≤ 65535 * 2048 = omega (arith, s.tally.small, s.tally.few) in
           (measured-good t room sectors bytes at m g (sym (met-none t m at left h) ∙ s.met), (s.wide, omega (arith, s.long)))
-
--- ---- the shape by what was met, its sides worked out before
-
-module _ (m : Met) (sides : ℕ) (e : sides ≡ sides_if m.second) where
-  pub shape-yes : m.fits && leb (m.cylinders * sides) 204 ≡ true → shaped.Of (record { cylinders = m.cylinders; sides = sides; long = m.long }) ≡ shape_by m
-  unfolding shape_by
-  shape-yes h = let q : m.fits && leb (m.cylinders * sides_if m.second) 204 ≡ true = rw (← e) h in rw (e, q) refl
-
-  pub shape-no : m.fits && leb (m.cylinders * sides) 204 ≡ false → shaped.Refused NoImage ≡ shape_by m
-  unfolding shape_by
-  shape-no h = let q : m.fits && leb (m.cylinders * sides_if m.second) 204 ≡ false = rw (← e) h in rw q refl

@@ -17,10 +17,12 @@ use Rattle.disk.proofs.Holds.{sizes-are}
 use Rattle.home.specs.Home.{units, block_for, cylinders_of, some_track, sides_of, entry_for, image_for, side_over_1, sectors_over_29, track_over_65280, entries_over_204, unwritable}
 use Rattle.home.specs.Passes.{met_none, met_with, met_at, sides_if, shape_by, shape_if}
 use Rattle.home.specs.declared.measure.Met.{Met}
-use Rattle.home.specs.declared.measure.Shaped.TheVariants as shaped
 use Rattle.fields.specs.declared.refusal.Refusal.TheVariants.{NoImage}
 use Rattle.home.proofs.Sizes.{each_map, Fit, Fine, block-length, is-rising, entries-few, all-fine, image-length}
 use Rattle.home.proofs.Orders.{Ordered, rising-ordered, ordered-rising}
+use Rattle.std.specs.Prelude.{Result, Ok, Err}
+use Rattle.fields.specs.declared.refusal.Refusal.{Refusal}
+use Rattle.home.specs.declared.measure.Shape.{Shape}
 
 -- ---- the tracks of a table as a disk
 
@@ -132,8 +134,8 @@ shape-disk d = by (unwritable d) refl
     cylinders : (met_of met_none d).cylinders ≡ cylinders_of d
     cylinders = met-cylinders met_none d ∙ omega arith
 
-    by : (v : Bool) → unwritable d ≡ v → cond ((met_of met_none d).fits && leb ((met_of met_none d).cylinders * sides_if (met_of met_none d).second) 204)
-        (shaped.Of (record { cylinders = (met_of met_none d).cylinders; sides = sides_if (met_of met_none d).second; long = (met_of met_none d).long })) (shaped.Refused NoImage)
+    by : (v : Bool) → unwritable d ≡ v → cond {A = Result Shape Refusal} ((met_of met_none d).fits && leb ((met_of met_none d).cylinders * sides_if (met_of met_none d).second) 204)
+        (Ok (record { cylinders = (met_of met_none d).cylinders; sides = sides_if (met_of met_none d).second; long = (met_of met_none d).long })) (Err NoImage)
         ≡ shape_if v d
     by false e =
         let fits : (met_of met_none d).fits ≡ true = fits-met met_none d refl (can-fit d e) (can-rise d e) in
@@ -142,7 +144,7 @@ shape-disk d = by (unwritable d) refl
     by true e = rw (sides, cylinders) (other ((met_of met_none d).fits && leb (cylinders_of d * sides_of d) 204) refl)
       where
         other : (v : Bool) → ((met_of met_none d).fits && leb (cylinders_of d * sides_of d) 204) ≡ v
-            → cond v (shaped.Of (record { cylinders = cylinders_of d; sides = sides_of d; long = (met_of met_none d).long })) (shaped.Refused NoImage) ≡ shaped.Refused NoImage
+            → cond {A = Result Shape Refusal} v (Ok (record { cylinders = cylinders_of d; sides = sides_of d; long = (met_of met_none d).long })) (Err NoImage) ≡ Err NoImage
         other false q = refl
         other true q =
             let f = (met-fits met_none d (and-fst (met_of met_none d).fits (leb (cylinders_of d * sides_of d) 204) q)).1 in

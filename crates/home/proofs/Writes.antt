@@ -2,20 +2,14 @@
 use mathlib.Core.Path.{◌≡◌, refl, sym, ap, ap₂, ◌∙◌}
 use Prim.Native.Nat.{ℕ, ◌+◌, ◌-◌, ◌*◌, ◌/◌, ◌≤◌, ◌<◌}
 use native.Mathlib.Omega.{arith}
-use mir.Syntax.{w64}
-use mir.Val.{Fits}
-use mir.Facts.{Fits-le}
-use native.Mathlib.Nat.{le_of_lt, mul-le-mul_right}
 use mathlib.Core.Bool.{Bool, true, false, cond}
 use mathlib.Core.List.{List, [], ◌∷◌, ◌++◌, append_assoc}
 use lib.ListN.{length, take, drop, set, replicate, length-append, length-take, length-drop, length-replicate, length-set, replicate-append-replicate}
-use lib.Seq.{take-append-le, drop-append-le, take-append-add, drop-append-add, take_at}
-use lib.Dec.{eqb, lit<}
+use lib.Seq.{take-append-le, drop-append-le, take-append-add, drop-append-add, take_at, take_all}
+use lib.Dec.{eqb}
 use Rattle.buffer.specs.Over.{over}
 use Rattle.buffer.proofs.Overs.{over-set, over-length, over-join}
-use Rattle.buffer.proofs.Loops.{tail-whole}
 use Rattle.fields.specs.Bytes.{byte_at}
-use Rattle.fields.specs.Refusals.{Result}
 use Rattle.fields.specs.declared.refusal.Refusal.{Refusal}
 use Rattle.fields.specs.declared.refusal.Refusal.TheVariants.{ShortBuffer}
 use Rattle.fields.specs.Model.{Track, Disk, Each, track_bytes}
@@ -24,7 +18,6 @@ use Rattle.tracks.proofs.Tracks.{down}
 use Rattle.store.specs.Store.{table_length, room_of, tracks_for, contents, sum_at, count_at, next_at, track_sum, track_at, tracks_at, bytes_at, disk_of}
 use Rattle.store.specs.Spots.{end_at}
 use Rattle.store.specs.Calls.{penned}
-use Rattle.store.specs.declared.answer.Extent.TheVariants as extent
 use Rattle.store.proofs.Pens.{penned-short, penned-whole}
 use Rattle.store.proofs.Sums.{down-none, bytes-step, end_step, within, track-sum}
 use Rattle.store.proofs.Checks.{kept, room_in, walkable}
@@ -33,16 +26,13 @@ use Rattle.store.proofs.Rounds.{contents-length, tracks-before}
 use Rattle.disk.proofs.Holds.{sizes-are, contents-laid, tracks-laid}
 use Rattle.loading.specs.Laying.{track_for}
 use Rattle.loading.proofs.Lays.{lay-on, two-parts, lay-none, track-length}
-use Rattle.home.specs.Home.{units, padded, track_info, block_for, blocks_for, home_text, cylinders_of, some_track, sides_of, entry_for, sizes_over}
-use Rattle.home.specs.Home.{size_table, disk_info, image_for, unwritable}
+use Rattle.home.specs.Home.{units, padded, track_info, block_for, blocks_for, home_text, cylinders_of, some_track, sides_of, entry_for, sizes_over, size_table, disk_info, image_for, unwritable}
 use Rattle.home.specs.Calls.{image_in, written_as}
 use Rattle.home.specs.Passes.{shaped_as, disk_at, Outbound, info_by, empty_block, sizes_in}
 use Rattle.home.specs.declared.measure.Shape.{Shape}
-use Rattle.home.specs.declared.measure.Shaped.{Shaped}
-use Rattle.home.specs.declared.measure.Shaped.TheVariants as shaped
-use Rattle.home.proofs.Sizes.{units-up, padded-length, block-length, block_size, each_map, Fine, blocks-length, entries-few, all-fine}
-use Rattle.home.proofs.Sizes.{table-long, disk-block-length, image-length}
+use Rattle.home.proofs.Sizes.{units-up, padded-length, block-length, block_size, each_map, Fine, blocks-length, entries-few, all-fine, table-long, disk-block-length, image-length}
 use Rattle.home.proofs.Judges.{image-refused, image-shaped}
+use Rattle.std.specs.Prelude.{Result, Ok, Err}
 
 -- ---- bytes and the zeros behind them
 
@@ -83,7 +73,7 @@ module _ (k : List ℕ) (h : 6 ≤ length k) (l : length k ≤ 238) where
       let x : List ℕ = info_by k in
       let n : 18 + length k ≡ length x = sym info-long in
       let u : 1 ≡ units (length x) = sym (one_unit (length x) (omega (arith, info-long)) (omega (arith, info-long))) in
-      let q : d₂ ≡ over d to x = two-parts d d₁ d₂ to (to + 24) (first_by k) (drop 6 k) e (f ∙ ap (over d₁ (to + 24)) (tail-whole k 6)) refl (omega arith) in
+      let q : d₂ ≡ over d to x = two-parts d d₁ d₂ to (to + 24) (first_by k) (drop 6 k) e (f ∙ ap (over d₁ (to + 24)) (take_all (length k - 6) (drop 6 k) (simp length-drop (omega arith)))) refl (omega arith) in
       padded-laid d d₂ d₃ x to 1 (omega arith) q u (g ∙ ap (λ (m : ℕ). over d₂ (to + m) (replicate (256 - m) 0)) n)
 
   -- the header and the data
@@ -92,10 +82,6 @@ module _ (k : List ℕ) (h : 6 ≤ length k) (l : length k ≤ 238) where
   track-put d d₁ d₂ x to r e f = two-parts d d₁ d₂ to (to + 256) (padded (info_by k)) (padded x) e f (ap (λ (n : ℕ). to + n) (sym header-length)) r
 
 -- ---- the disk block
-
--- the zeros that it is laid over
-pub block-long : (d : List ℕ) → d ≡ replicate 256 0 → length d ≡ 256
-block-long d e = ap length e
 
 -- cylinders and sides behind the text, over zeros
 pub info-laid : (d d₁ : List ℕ) (c s : ℕ) → d ≡ replicate 256 0 → d₁ ≡ over d 0 home_text → set (set d₁ 48 c) 49 s ≡ empty_block c s
@@ -199,18 +185,6 @@ module _ (t b : List ℕ) (small : (k : ℕ) → byte_at t k < 256) (at place : 
       ≡ block_for (track_at t b at place)
   unfolding block_for
   block_here = ap₂ (λ (x y : List ℕ). padded x ++ padded y) (ap (λ (x : List ℕ). info_by x) rows_are ∙ info-here) contents-are
-
--- ---- an entry
-
--- one byte times one or two sides, and another byte, fit
-times-few : (x k : ℕ) → x < 256 → k ≤ 2 → x * k ≤ 512
-times-few x k h l = let q : x * k ≤ 256 * k = mul-le-mul_right k (le_of_lt h) in omega arith
-
-pub times-fits : (x k : ℕ) → x < 256 → k ≤ 2 → Fits w64 (x * k)
-times-fits x k h l = Fits-le (times-few x k h l) (record { fits = lit< tt })
-
-pub entry-fits : (x k y : ℕ) → x < 256 → y < 256 → k ≤ 2 → Fits w64 (x * k + y)
-entry-fits x k y h m l = let q : x * k + y ≤ 768 = omega (arith, times-few x k h l) in Fits-le q (record { fits = lit< tt })
 
 -- ---- the loop of `put_tracks`
 
@@ -381,15 +355,16 @@ module _ (t b block₀ image₀ : List ℕ) where
           }
 
       -- the same by the numbers that the code read
-      pub putting-again : ((k : ℕ) → byte_at t k < 256) → (n m stored u entry : ℕ) → n ≡ count_at t at → m ≡ count_at t at → stored ≡ sum_at t (at + 6) m
+      pub putting-again : ((k : ℕ) → byte_at t k < 256) → (n stored u entry : ℕ) → n ≡ count_at t at → stored ≡ sum_at t (at + 6) n
           → u ≡ units stored → entry ≡ byte_at t at * sides + byte_at t (at + 1) → (image' : List ℕ)
           → image' ≡ over image to (padded (info_by (take (at + 6 + 8 * n - at) (drop at t))) ++ padded (take (place + stored - place) (drop place b)))
-          → Putting t b block₀ image₀ sides (set block (0x34 + entry) (1 + u)) image' (left - 1) (at + 6 + 8 * n) (place + stored) (to + 256 * (1 + u))
-      putting-again small n m stored u entry en em es eu ee image' e =
+          → (left' : ℕ) → left' ≡ left - 1
+          → Putting t b block₀ image₀ sides (set block (0x34 + entry) (1 + u)) image' left' (at + 6 + 8 * n) (place + stored) (to + 256 * (1 + u))
+      putting-again small n stored u entry en es eu ee image' e left' el =
           let next : at + 6 + 8 * n ≡ next_at t at = omega arith in
-          let sum : stored ≡ track_sum t at = track-sum t at m stored em es in
+          let sum : stored ≡ track_sum t at = track-sum t at n stored en es in
           let v : u ≡ units (track_sum t at) = eu ∙ ap units sum in
-          rw (next, sum, v, ee) (putting-past small image' (rw (next, sum) at e))
+          rw (el, next, sum, v, ee) (putting-past small image' (rw (next, sum) at e))
 
     -- behind the last track
     pub putting-done : left ≤ 0 → (image ≡ over image₀ 256 (blocks_for (disk_at t b))) × (block ≡ sizes_in sides (disk_at t b) block₀)
@@ -435,12 +410,12 @@ module _ (t b : List ℕ) (s : Shape) (w : Outbound t b s) where
 
 -- ---- the call
 
-module _ (t b : List ℕ) (r : Shaped) (j : r ≡ shaped_as (disk_of t b)) where
+module _ (t b : List ℕ) (r : Result Shape Refusal) (j : r ≡ shaped_as (disk_of t b)) where
   -- no image
-  pub written_none : (why : Refusal) → r ≡ shaped.Refused why → (image : List ℕ) → penned (extent.Refused why) image ≡ written_as (image_in t b) image
-  written_none why e image = ap (λ (x : Result (List ℕ)). written_as x image) (sym (image-refused t b r j why e))
+  pub written_none : (why : Refusal) → r ≡ Err why → (image : List ℕ) → penned (Err why) image ≡ written_as (image_in t b) image
+  written_none why e image = ap (λ (x : Result (List ℕ) Refusal). written_as x image) (sym (image-refused t b r j why e))
 
-  module _ (s : Shape) (e : r ≡ shaped.Of s) where
+  module _ (s : Shape) (e : r ≡ Ok s) where
     -- an image: what `put_image` asks, and how long it is
     pub writing : Outbound t b s
     writing = (image-shaped t b r j s e).0
@@ -449,9 +424,9 @@ module _ (t b : List ℕ) (r : Shaped) (j : r ≡ shaped_as (disk_of t b)) where
     long-is = ap (λ (x : Shape). x.long) writing.shape
 
     -- a buffer that is too short, and one that is not
-    pub written-short : (image : List ℕ) → length image < s.long → penned (extent.Refused ShortBuffer) image ≡ written_as (image_in t b) image
+    pub written-short : (image : List ℕ) → length image < s.long → penned (Err ShortBuffer) image ≡ written_as (image_in t b) image
     written-short image h = rw (image-shaped t b r j s e).1 (penned-short (image_for (disk_at t b)) image s.long long-is h)
 
     pub written-whole : (image image₁ : List ℕ) → s.long ≤ length image → image₁ ≡ over image 0 (image_for (disk_at t b))
-        → penned (extent.Of s.long) image₁ ≡ written_as (image_in t b) image
+        → penned (Ok s.long) image₁ ≡ written_as (image_in t b) image
     written-whole image image₁ h q = rw (image-shaped t b r j s e).1 (penned-whole (image_for (disk_at t b)) image s.long long-is image₁ h q)

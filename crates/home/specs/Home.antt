@@ -1,9 +1,9 @@
 -- The disk goes home (02, request 2026-03): the extended image that a disk is written as, or refusal 12.
 -- Places are those of the published description; `Dsk` of crate `image` and `Block` of crate `tracks` read what is written.
 -- Track blocks stand before the disk block here, since its table has their sizes.
-use Rattle.std.specs.Prelude.{ℕ, ◌+◌, ◌-◌, ◌*◌, ◌/◌, max, List, [], ◌∷◌, ◌++◌, Bool, true, false, not, cond, ◌&&◌, ◌||◌, length, replicate, eqb, ltb}
+use Rattle.std.specs.Prelude.{ℕ, ◌+◌, ◌-◌, ◌*◌, ◌/◌, max, List, [], ◌∷◌, ◌++◌, Bool, true, false, not, cond, ◌&&◌, ◌||◌, length, replicate, eqb, ltb, Result, Ok}
 use Rattle.buffer.specs.Over.{over}
-use Rattle.fields.specs.Refusals.{Result, good, need}
+use Rattle.fields.specs.Refusals.{need}
 use Rattle.fields.specs.Model.{Track, Disk}
 use Rattle.fields.specs.declared.refusal.Refusal.TheVariants.{NoImage}
 use Rattle.tracks.specs.Block.{track_text}
@@ -11,6 +11,7 @@ use Rattle.tracks.specs.Rows.{rows_for}
 use Rattle.image.specs.Dsk.{extended_text}
 use Rattle.store.specs.Store.{contents}
 use Rattle.disk.specs.Change.{earlier}
+use Rattle.fields.specs.declared.refusal.Refusal.{Refusal}
 
 -- ---- Padding
 
@@ -118,5 +119,5 @@ unfoldable pub unwritable : Disk → Bool
 unwritable d = not (rising d) || (side_over_1 d || (entries_over_204 d || (sectors_over_29 d || track_over_65280 d)))
 
 -- the image of a disk, or 12
-unfoldable pub home_of : Disk → Result (List ℕ)
-home_of d = need (not (unwritable d)) NoImage (good (image_for d))
+unfoldable pub home_of : Disk → Result (List ℕ) Refusal
+home_of d = need (not (unwritable d)) NoImage (Ok (image_for d))

@@ -1,19 +1,15 @@
 -- What the pass that measures and the pass that writes go by.
-use Rattle.std.specs.Prelude.{◌≡◌, ℕ, zero, suc, ◌+◌, ◌*◌, ◌/◌, ◌≤◌, ◌<◌, max, Bool, true, false, cond, ◌&&◌, ◌||◌, List, [], ◌∷◌, ◌++◌, length, drop, replicate, eqb, leb}
+use Rattle.std.specs.Prelude.{◌≡◌, ℕ, zero, suc, ◌+◌, ◌*◌, ◌/◌, ◌≤◌, ◌<◌, max, Bool, true, false, cond, ◌&&◌, ◌||◌, List, [], ◌∷◌, ◌++◌, length, drop, replicate, eqb, leb, Result, Ok, Err}
 use Rattle.buffer.specs.Over.{over}
 use Rattle.fields.specs.Bytes.{byte_at}
-use Rattle.fields.specs.Refusals.{Result, refused, good}
 use Rattle.fields.specs.Model.{Disk}
-use Rattle.fields.specs.declared.refusal.Refusal.TheVariants.{NoImage}
+use Rattle.fields.specs.declared.refusal.Refusal.TheVariants.{NoImage, BadStore}
 use Rattle.tracks.specs.Block.{track_text}
 use Rattle.store.specs.Store.{count_at, next_at, track_sum, tracks_at, well_laid, room_of}
-use Rattle.home.specs.Home.{units, padded, home_text, cylinders_of, sides_of, entry_for, block_for, image_for, unwritable}
+use Rattle.home.specs.Home.{units, home_text, cylinders_of, sides_of, entry_for, block_for, image_for, unwritable}
 use Rattle.home.specs.declared.measure.Met.{Met}
-use Rattle.home.specs.declared.measure.Measured.{Measured}
-use Rattle.home.specs.declared.measure.Measured.TheVariants as measured
 use Rattle.home.specs.declared.measure.Shape.{Shape}
-use Rattle.home.specs.declared.measure.Shaped.{Shaped}
-use Rattle.home.specs.declared.measure.Shaped.TheVariants as shaped
+use Rattle.fields.specs.declared.refusal.Refusal.{Refusal}
 
 -- ---- The pass that measures
 
@@ -37,36 +33,36 @@ met_at t m at zero = m
 met_at t m at (suc left) = met_at t (met_with m (byte_at t at) (byte_at t (at + 1)) (count_at t at) (track_sum t at)) (next_at t at) left
 
 -- all tracks of a table that keeps the layout
-unfoldable pub measured_of : List ℕ → ℕ → Measured
-measured_of t room = cond (well_laid t room) (measured.Of (met_at t met_none 1 (byte_at t 0))) measured.Bad
+unfoldable pub measured_of : List ℕ → ℕ → Result Met Refusal
+measured_of t room = cond (well_laid t room) (Ok (met_at t met_none 1 (byte_at t 0))) (Err BadStore)
 
 -- few cylinders, and a length of four bytes
-abbrev pub Modest : Measured → Type 0
-Modest measured.Bad = Unit {0}
-Modest (measured.Of m) = (m.cylinders ≤ 256) × (m.long < 4294967296)
+abbrev pub Modest : Result Met Refusal → Type 0
+Modest (Err why) = Unit {0}
+Modest (Ok m) = (m.cylinders ≤ 256) × (m.long < 4294967296)
 
 -- sides by whether a track has side 1
 abbrev pub sides_if : Bool → ℕ
 sides_if second = cond second 2 1
 
 -- what was met as an image's shape, or 12
-unfoldable pub shape_by : Met → Shaped
+unfoldable pub shape_by : Met → Result Shape Refusal
 shape_by m =
     cond (m.fits && leb (m.cylinders * sides_if m.second) 204)
-    (shaped.Of (record { cylinders = m.cylinders; sides = sides_if m.second; long = m.long })) (shaped.Refused NoImage)
+    (Ok (record { cylinders = m.cylinders; sides = sides_if m.second; long = m.long })) (Err NoImage)
 
 -- the shape of a disk's image
 abbrev pub shape_of : Disk → Shape
 shape_of d = record { cylinders = cylinders_of d; sides = sides_of d; long = length (image_for d) }
 
-abbrev pub shape_if : Bool → Disk → Shaped
-shape_if true d = shaped.Refused NoImage
-shape_if false d = shaped.Of (shape_of d)
+abbrev pub shape_if : Bool → Disk → Result Shape Refusal
+shape_if true d = Err NoImage
+shape_if false d = Ok (shape_of d)
 
 -- 2, 12, or the shape
-abbrev pub shaped_as : Result Disk → Shaped
-shaped_as (refused why) = shaped.Refused why
-shaped_as (good d) = shape_if (unwritable d) d
+abbrev pub shaped_as : Result Disk Refusal → Result Shape Refusal
+shaped_as (Err why) = Err why
+shaped_as (Ok d) = shape_if (unwritable d) d
 
 -- ---- The pass that writes
 

@@ -6,9 +6,9 @@ ghost use Rattle.home.specs.Home.{units, padded, image_for, blocks_for};
 ghost use Rattle.home.specs.Calls.{image_in, written_as};
 ghost use Rattle.home.specs.Passes.{disk_at, Outbound, info_by, empty_block, sizes_in};
 
-use crate::measure::{Shape, Shaped, judge, units_of};
+use crate::measure::{Shape, judge, units_of};
 use fields::Refusal;
-use store::{Extent, rows_len};
+use store::rows_len;
 
 // Lays the header of a track block, 256 bytes, by the track's bytes in a table.
 fn put_header(image: &mut [u8], to: usize, track: &[u8])
@@ -62,22 +62,22 @@ fn put_tracks(table: &[u8], bytes: &[u8], s: Shape, block: &mut [u8], image: &mu
         ≡ over image.old 256 (blocks_for (disk_at table.now bytes.now)))
         × (block.new ≡ sizes_in s.sides (disk_at table.now bytes.now) block.old) }
 {
-    let sides = s.sides;
-    let mut left = fields::byte(table, 0);
     let mut at: usize = 1;
     let mut place: usize = 0;
     let mut to: usize = 256;
-    while 0 < left {
-        let next = at + 6 + 8 * fields::byte(table, at + 5);
-        let stored = rows_len(table, at + 6, fields::byte(table, at + 5));
+    for _ in 0..fields::byte(table, 0) {
+        let count = fields::byte(table, at + 5);
+        let next = at + 6 + 8 * count;
+        let stored = rows_len(table, at + 6, count);
         let size = 1 + units_of(stored);
-        let entry = entry_of(fields::byte(table, at), fields::byte(table, at + 1), sides);
+        let cylinder = fields::byte(table, at);
+        let side = fields::byte(table, at + 1);
+        let entry = entry_of(cylinder, side, s.sides);
         put_track(image, to, &table[at..next], &bytes[place..place + stored]);
         block[0x34 + entry] = size as u8;
         to += 256 * size;
         place += stored;
         at = next;
-        left -= 1;
     }
 }
 
@@ -97,28 +97,22 @@ fn put_image(table: &[u8], bytes: &[u8], s: Shape, image: &mut [u8])
     requires long_in_bounds { s.long ≤ length image.old }
     ensures { image.new ≡ over image.old 0 (image_for (disk_at table.now bytes.now)) }
 {
-    let mut space = [0u8; 256];
-    let block: &mut [u8] = &mut space;
-    put_info(block, s.cylinders, s.sides);
-    put_tracks(table, bytes, s, block, image);
-    buffer::copy_in(image, 0, block);
+    let mut block = [0u8; 256];
+    put_info(&mut block, s.cylinders, s.sides);
+    put_tracks(table, bytes, s, &mut block, image);
+    buffer::copy_in(image, 0, &block);
 }
 
 // Writes the image of the disk that a store holds to the buffer's start; bytes behind it stay. 2, 12, then 13 for a buffer
 // that is too short: it stays as it came.
-pub fn write_image(table: &[u8], bytes: &[u8], image: &mut [u8]) -> Extent
+pub fn write_image(table: &[u8], bytes: &[u8], image: &mut [u8]) -> Result<u32, Refusal>
     ensures { penned result image.new
         ≡ written_as (image_in table.now bytes.now) image.old }
 {
-    match judge(table, bytes) {
-        Shaped::Refused(why) => Extent::Refused(why),
-        Shaped::Of(s) => {
-            let long = s.long;
-            if image.len() < long as usize {
-                return Extent::Refused(Refusal::ShortBuffer);
-            }
-            put_image(table, bytes, s, image);
-            Extent::Of(long)
-        }
+    let s = judge(table, bytes)?;
+    if image.len() < s.long as usize {
+        return Err(Refusal::ShortBuffer);
     }
+    put_image(table, bytes, s, image);
+    Ok(s.long)
 }

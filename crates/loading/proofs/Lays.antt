@@ -1,14 +1,13 @@
 -- Laying tracks: what the parts of a table and of a data buffer are, and how one is laid behind another.
 use mathlib.Core.Path.{◌≡◌, refl, sym, ap, ◌∙◌}
-use Prim.Native.Nat.{ℕ, zero, suc, ◌+◌, ◌-◌, ◌*◌, ◌≤◌, ◌<◌, min}
+use Prim.Native.Nat.{ℕ, zero, suc, ◌+◌, ◌-◌, ◌*◌, ◌≤◌, ◌<◌}
 use native.Mathlib.Omega.{arith}
 use native.Mathlib.Nat.{suc-mul}
 use mathlib.Core.List.{List, [], ◌∷◌, ◌++◌}
-use lib.ListN.{length, take, drop, replicate, length-take, length-replicate, replicate-append-replicate}
+use lib.ListN.{length, take, drop, replicate, length-replicate, replicate-append-replicate}
 use lib.Seq.{take-add, drop-drop}
 use Rattle.buffer.specs.Over.{over}
 use Rattle.buffer.proofs.Overs.{over-over, over-nil, over-length}
-use Rattle.fields.specs.Refusals.{good}
 use Rattle.fields.specs.Bytes.{byte_at}
 use Rattle.fields.specs.Model.{size_of, Sector, Track, Disk, total, track_bytes, sector_count, byte_count}
 use Rattle.fields.specs.declared.id.SectorId.{SectorId}
@@ -24,6 +23,7 @@ use Rattle.store.specs.Store.{tracks_for, contents, data_of}
 use Rattle.tracks.specs.Rows.{row_for, head_for, sector_row, rows_for, ids_at, ids_from}
 use Rattle.store.specs.Fresh.{blanks, formatted, fresh_track, fresh_from}
 use Rattle.loading.specs.Laying.{list_from, block_rows, block_data, track_for, formatted_by, Whole}
+use Rattle.std.specs.Prelude.{Ok}
 
 -- ---- one part behind another
 
@@ -36,10 +36,6 @@ lay-on t at x rest goal at' p e h = over-over t at x rest at' e h ∙ p
 pub two-parts : (t t₁ t₂ : List ℕ) (at at' : ℕ) (x y : List ℕ) → t₁ ≡ over t at x → t₂ ≡ over t₁ at' y → at' ≡ at + length x → at ≤ length t
     → t₂ ≡ over t at (x ++ y)
 two-parts t t₁ t₂ at at' x y e f q h = f ∙ ap (λ (z : List ℕ). over z at' y) e ∙ over-over t at x y at' q h
-
--- a part is no longer than was asked
-pub part-short : (p b : List ℕ) (n : ℕ) → p ≡ take n b → length p ≤ n
-part-short p b n e = let l : length p ≡ min n (length b) = ap length e ∙ length-take n b in omega arith
 
 -- nothing is left to lay
 pub lay-none : (t : List ℕ) (at : ℕ) (rest goal : List ℕ) → over t at rest ≡ goal → rest ≡ [] → t ≡ goal
@@ -88,7 +84,7 @@ module _ (kind : Kind) (b : List ℕ) where
       ∙ ap (λ (l : List ℕ). take n (drop place b) ++ take m l) (drop-drop n place b)
       ∙ ap (λ (l : List ℕ). take n (drop place b) ++ l) (contents-are (k + 1) (place + n) left)
 
-  module _ (t : Track) (e : track_of kind b ≡ good t) where
+  module _ (t : Track) (e : track_of kind b ≡ Ok t) where
     -- how many bytes the track of a block has, by the block
     pub track-stored : track_bytes t ≡ stored_from kind b 0 (byte_at b 0x15)
     unfolding track_in
@@ -113,37 +109,30 @@ module _ (kind : Kind) (b : List ℕ) where
 -- ---- loops that lay rows
 
 -- what such a loop knows at its head: `rest` is still to be laid, `goal` is what will then be there
-pub record Rowing (goal t₀ t : List ℕ) (start count k at : ℕ) (rest : List ℕ) : Type 0 where
-  pub within : k ≤ count
-  pub here : at ≡ start + 8 * k
+pub record Rowing (goal t₀ t : List ℕ) (start k : ℕ) (rest : List ℕ) : Type 0 where
   pub same : length t ≡ length t₀
-  pub pending : over t at rest ≡ goal
+  pub pending : over t (start + 8 * k) rest ≡ goal
 
-pub rowing_start : (t₀ rest : List ℕ) (start count : ℕ) (rest' : List ℕ) → rest' ≡ rest → Rowing (over t₀ start rest) t₀ t₀ start count 0 start rest'
-rowing_start t₀ rest start count rest' e = record { within = omega arith; here = omega arith; same = refl; pending = ap (over t₀ start) e }
-
-pub rowing-done : (goal t₀ t : List ℕ) (start count k at : ℕ) (rest : List ℕ) → Rowing goal t₀ t start count k at rest → rest ≡ [] → t ≡ goal
-rowing-done goal t₀ t start count k at rest r e = lay-none t at rest goal r.pending e
+pub rowing-done : (goal t₀ t : List ℕ) (start k : ℕ) (rest : List ℕ) → Rowing goal t₀ t start k rest → rest ≡ [] → t ≡ goal
+rowing-done goal t₀ t start k rest r e = lay-none t (start + 8 * k) rest goal r.pending e
 
 module _ (goal t₀ : List ℕ) (start count : ℕ) (fits : start + 8 * count ≤ length t₀) where
-  pub rowing-again : (t : List ℕ) (k at : ℕ) (rest : List ℕ) → Rowing goal t₀ t start count k at rest → k < count
-      → (t' x rest' : List ℕ) → t' ≡ over t at x → length x ≡ 8 → rest ≡ x ++ rest' → Rowing goal t₀ t' start count (k + 1) (at + 8) rest'
-  rowing-again t k at rest r h t' x rest' e l q =
-      let in-t : at + length x ≤ length t = omega (arith, r.here, r.same) in
+  pub rowing-again : (t : List ℕ) (k : ℕ) (rest : List ℕ) → Rowing goal t₀ t start k rest → k < count
+      → (t' x rest' : List ℕ) → t' ≡ over t (start + 8 * k) x → length x ≡ 8 → rest ≡ x ++ rest' → Rowing goal t₀ t' start (k + 1) rest'
+  rowing-again t k rest r h t' x rest' e l q =
+      let at : ℕ = start + 8 * k in
+      let in-t : at + length x ≤ length t = omega (arith, r.same) in
       let at-t : at ≤ length t = omega arith in
-      let next : at + 8 ≡ at + length x = omega arith in
+      let next : start + 8 * (k + 1) ≡ at + length x = omega arith in
       record {
-        within = omega arith;
-        here = omega (arith, r.here);
         same = ap length e ∙ over-length t at x in-t ∙ r.same;
-        pending = ap (λ (y : List ℕ). over y (at + 8) rest') e ∙ lay-on t at x rest' goal (at + 8) (ap (over t at) (sym q) ∙ r.pending) next at-t;
+        pending =
+            ap (λ (y : List ℕ). over y (start + 8 * (k + 1)) rest') e
+            ∙ lay-on t at x rest' goal (start + 8 * (k + 1)) (ap (over t at) (sym q) ∙ r.pending) next at-t;
       }
 
 -- what is left of a block's list: at the start, after a row, at the end
 module _ (kind : Kind) (b : List ℕ) (count : ℕ) where
-  pub list-first : list_from kind b 0 (count - 0) ≡ list_from kind b 0 count
-  list-first = ap (list_from kind b 0) (omega arith)
-
   pub list-rest : (k : ℕ) (row : Row) → k < count → row ≡ row_of kind b k
       → list_from kind b k (count - k) ≡ row_for row (list_from kind b (k + 1) (count - (k + 1)))
   list-rest k row h e =
@@ -196,9 +185,6 @@ module _ (b : List ℕ) (size : ℕ) where
       λ i. row_for (blank_row (id_at b at) (q i)) (rows-blank n f e (at + 4) left i)
 
   module _ (count : ℕ) where
-    pub ids-first : id_rows (4 * 0) (count - 0) ≡ id_rows 0 count
-    ids-first = ap (id_rows 0) (omega arith)
-
     pub ids-rest : (k : ℕ) (id : SectorId) → k < count → id ≡ id_at b (4 * k)
         → id_rows (4 * k) (count - k) ≡ row_for (blank_row id size) (id_rows (4 * (k + 1)) (count - (k + 1)))
     unfolding id_rows
@@ -267,33 +253,21 @@ fresh-bytes c zero = refl
 fresh-bytes c (suc left) = omega (arith, fresh-whole c, fresh-bytes (c + 1) left)
 
 -- what the loop that lays them knows at its head
-pub record Freshing (t₀ b₀ t b : List ℕ) (c at place : ℕ) : Type 0 where
-  pub within : c ≤ 40
-  pub row : at ≡ 1 + 78 * c
-  pub byte : place ≡ 4608 * c
+pub record Freshing (t₀ b₀ t b : List ℕ) (c : ℕ) : Type 0 where
   pub same-table : length t ≡ length t₀
   pub same_bytes : length b ≡ length b₀
-  pub rows : over t at (tracks_for (fresh_from c (40 - c)) []) ≡ over t₀ 1 (tracks_for (fresh_from 0 40) [])
-  pub bytes : over b place (data_of (fresh_from c (40 - c))) ≡ over b₀ 0 (data_of (fresh_from 0 40))
+  pub rows : over t (1 + 78 * c) (tracks_for (fresh_from c (40 - c)) []) ≡ over t₀ 1 (tracks_for (fresh_from 0 40) [])
+  pub bytes : over b (4608 * c) (data_of (fresh_from c (40 - c))) ≡ over b₀ 0 (data_of (fresh_from 0 40))
 
 module _ (t₀ b₀ : List ℕ) (ft : 3121 ≤ length t₀) (fb : 184320 ≤ length b₀) where
-  pub fresh_start : Freshing t₀ b₀ t₀ b₀ 0 1 0
-  fresh_start = record {
-    within = omega arith;
-    row = refl;
-    byte = refl;
-    same-table = refl;
-    same_bytes = refl;
-    rows = refl;
-    bytes = refl;
-  }
-
-  module _ (t b : List ℕ) (c at place : ℕ) (r : Freshing t₀ b₀ t b c at place) where
-    pub fresh-again : c < 40 → (t' b' : List ℕ) → t' ≡ over t at (track_for (fresh_track c))
-        → b' ≡ over b place (contents (fresh_track c).sectors) → Freshing t₀ b₀ t' b' (c + 1) (at + 78) (place + 4608)
+  module _ (t b : List ℕ) (c : ℕ) (r : Freshing t₀ b₀ t b c) where
+    pub fresh-again : c < 40 → (t' b' : List ℕ) → t' ≡ over t (1 + 78 * c) (track_for (fresh_track c))
+        → b' ≡ over b (4608 * c) (contents (fresh_track c).sectors) → Freshing t₀ b₀ t' b' (c + 1)
     unfolding data_of
     fresh-again h t' b' et eb =
         let tr : Track = fresh_track c in
+        let at : ℕ = 1 + 78 * c in
+        let place : ℕ = 4608 * c in
         let p : 0 < 40 - c = omega arith in
         let q : 40 - c - 1 ≡ 40 - (c + 1) = omega arith in
         let rest : Disk = fresh_from (c + 1) (40 - (c + 1)) in
@@ -301,19 +275,16 @@ module _ (t₀ b₀ : List ℕ) (ft : 3121 ≤ length t₀) (fb : 184320 ≤ len
         let lt : length (track_for tr) ≡ 78 = omega (arith, track-length tr, fresh-nine c) in
         let lb : length (contents tr.sectors) ≡ 4608 = omega (arith, contents-length tr.sectors, fresh-whole c) in
         record {
-          within = omega arith;
-          row = omega (arith, r.row);
-          byte = omega (arith, r.byte);
-          same-table = ap length et ∙ over-length t at (track_for tr) (omega (arith, r.row, r.same-table)) ∙ r.same-table;
-          same_bytes = ap length eb ∙ over-length b place (contents tr.sectors) (omega (arith, r.byte, r.same_bytes)) ∙ r.same_bytes;
+          same-table = ap length et ∙ over-length t at (track_for tr) (omega (arith, r.same-table)) ∙ r.same-table;
+          same_bytes = ap length eb ∙ over-length b place (contents tr.sectors) (omega (arith, r.same_bytes)) ∙ r.same_bytes;
           rows =
-              ap (λ (y : List ℕ). over y (at + 78) (tracks_for rest [])) et
-              ∙ lay-on t at (track_for tr) (tracks_for rest []) _ (at + 78)
-              (ap (over t at) (sym (tracks-append tr rest) ∙ ap (λ (d : Disk). tracks_for d []) (sym s)) ∙ r.rows) (omega arith) (omega (arith, r.row, r.same-table));
+              ap (λ (y : List ℕ). over y (1 + 78 * (c + 1)) (tracks_for rest [])) et
+              ∙ lay-on t at (track_for tr) (tracks_for rest []) _ (1 + 78 * (c + 1))
+              (ap (over t at) (sym (tracks-append tr rest) ∙ ap (λ (d : Disk). tracks_for d []) (sym s)) ∙ r.rows) (omega arith) (omega (arith, r.same-table));
           bytes =
-              ap (λ (y : List ℕ). over y (place + 4608) (data_of rest)) eb
-              ∙ lay-on b place (contents tr.sectors) (data_of rest) _ (place + 4608)
-              (ap (over b place) (ap data_of (sym s)) ∙ r.bytes) (omega arith) (omega (arith, r.byte, r.same_bytes));
+              ap (λ (y : List ℕ). over y (4608 * (c + 1)) (data_of rest)) eb
+              ∙ lay-on b place (contents tr.sectors) (data_of rest) _ (4608 * (c + 1))
+              (ap (over b place) (ap data_of (sym s)) ∙ r.bytes) (omega arith) (omega (arith, r.same_bytes));
         }
 
     pub fresh-done : 40 ≤ c → (t ≡ over t₀ 1 (tracks_for (fresh_from 0 40) [])) × (b ≡ over b₀ 0 (data_of (fresh_from 0 40)))
@@ -321,6 +292,6 @@ module _ (t₀ b₀ : List ℕ) (ft : 3121 ≤ length t₀) (fb : 184320 ≤ len
     fresh-done h =
         let e : 40 - c ≡ 0 = omega arith in
         let n : fresh_from c (40 - c) ≡ [] = rw e in (
-          lay-none t at (tracks_for (fresh_from c (40 - c)) []) _ r.rows (ap (λ (d : Disk). tracks_for d []) n),
-          lay-none b place (data_of (fresh_from c (40 - c))) _ r.bytes (ap data_of n),
+          lay-none t _ (tracks_for (fresh_from c (40 - c)) []) _ r.rows (ap (λ (d : Disk). tracks_for d []) n),
+          lay-none b _ (data_of (fresh_from c (40 - c))) _ r.bytes (ap data_of n),
         )

@@ -1,6 +1,5 @@
 -- What the calls that lay tracks leave, private or lent to crate `formatting`. A reader of the promises need not read this page.
-use Rattle.std.specs.Prelude.{ℕ, zero, suc, ◌+◌, ◌*◌, ◌≤◌, List, [], ◌∷◌, ◌≡◌, length, take, drop}
-use Rattle.fields.specs.Refusals.{Result, refused, good}
+use Rattle.std.specs.Prelude.{ℕ, zero, suc, ◌+◌, ◌*◌, ◌≤◌, List, [], ◌∷◌, ◌≡◌, length, take, drop, Result, Ok}
 use Rattle.fields.specs.Model.{size_of, Track, sector_count, byte_count}
 use Rattle.tracks.specs.Block.{row_of}
 use Rattle.tracks.specs.Rows.{row_for, head_for, ids_at}
@@ -11,8 +10,7 @@ use Rattle.tracks.specs.declared.track.Head.{Head}
 use Rattle.store.specs.Store.{tracks_for}
 use Rattle.store.specs.Fresh.{formatted}
 use Rattle.store.specs.Calls.{within}
-use Rattle.store.specs.declared.answer.Done.{Done}
-use Rattle.store.specs.declared.answer.Done.TheVariants as done
+use Rattle.fields.specs.declared.refusal.Refusal.{Refusal}
 
 -- the rows of so many entries of a track block's sector list, from entry k on
 unfoldable pub list_from : Kind → List ℕ → ℕ → ℕ → List ℕ
@@ -40,14 +38,10 @@ Whole h = h.stored ≡ h.sectors * size_of h.size
 
 -- a walk whose tracks are good and find room from a place of the table and one of the data buffer on
 pub record Layable (b : List ℕ) (w : Walk) (at place long room : ℕ) : Type 0 where
-  pub whole : tracks_left b w ≡ good (to_come b w)
+  pub whole : tracks_left b w ≡ Ok (to_come b w)
   pub rows : at + 6 * length (to_come b w) + 8 * sector_count (to_come b w) ≤ long
   pub bytes : place + byte_count (to_come b w) ≤ room
 
 -- whether the capacities allow so much
-abbrev pub done_of : Result (Unit {0}) → Done
-done_of (refused why) = done.Refused why
-done_of (good u) = done.Good
-
-abbrev pub capacity_of : ℕ → ℕ → ℕ → ℕ → Done
-capacity_of tracks sectors bytes room = done_of (within tracks sectors bytes room (good tt))
+abbrev pub capacity_of : ℕ → ℕ → ℕ → ℕ → Result (Unit {0}) Refusal
+capacity_of tracks sectors bytes room = within tracks sectors bytes room (Ok tt)

@@ -9,8 +9,8 @@ ghost use Rattle.store.specs.Calls.{outcome, load_of, fresh_of};
 ghost use Rattle.loading.specs.Laying.{list_from, block_rows, block_data, track_for, formatted_by, Whole, Layable, capacity_of};
 
 use fields::{Refusal, SECTORS, St1, St2, TRACKS, size_of};
-use image::{Step, Surveyed, Totals, Walk};
-use store::{Done, TABLE, room_of};
+use image::{Step, Walk};
+use store::{TABLE, room_of};
 use tracks::{Head, Kind, Row};
 
 // Lays the rows of a track block's sectors.
@@ -18,12 +18,9 @@ fn put_rows(table: &mut [u8], start: usize, kind: Kind, block: &[u8], count: u8)
     requires { start + 8 * count ≤ length table.old }
     ensures { table.new ≡ over table.old start (list_from kind block.now 0 count) }
 {
-    let mut k: u8 = 0;
-    let mut at = start;
-    while k < count {
-        tracks::put_row(table, at, tracks::sector_row(kind, block, k));
-        at += 8;
-        k += 1;
+    for k in 0..count {
+        let row = tracks::sector_row(kind, block, k);
+        tracks::put_row(table, start + 8 * (k as usize), row);
     }
 }
 
@@ -53,17 +50,17 @@ fn lay_tracks(image: &[u8], start: Walk, table: &mut [u8], bytes: &mut [u8])
     ensures { (table.new ≡ over table.old 1 (tracks_for (to_come image.now start) []))
         × (bytes.new ≡ over bytes.old 0 (data_of (to_come image.now start))) }
 {
-    let kind = start.kind;
     let mut walk = start;
     let mut at: usize = 1;
     let mut place: usize = 0;
+    // A step tells that the walk has ended.
     loop {
         match walk.step(image) {
-            Step::Refused(_) => return,
-            Step::End => return,
-            Step::Absent(rest) => walk = rest,
-            Step::Track(head, rest) => {
-                lay_track(table, at, bytes, place, kind, walk.block(image), head);
+            Err(_) => unreachable!(),
+            Ok(Step::End) => return,
+            Ok(Step::Absent(rest)) => walk = rest,
+            Ok(Step::Track(head, rest)) => {
+                lay_track(table, at, bytes, place, walk.kind, walk.block(image), head);
                 at += 6 + 8 * (head.sectors as usize);
                 place += head.stored as usize;
                 walk = rest;
@@ -73,50 +70,35 @@ fn lay_tracks(image: &[u8], start: Walk, table: &mut [u8], bytes: &mut [u8])
 }
 
 // Whether the capacities allow so many tracks, sectors and bytes.
-pub fn capacity(tracks: usize, sectors: usize, bytes: usize, room: usize) -> Done
+#[tactic(auto, using(std::proofs::lemmas::Bool::Decides::nat_tests), unfolding(store::specs::Calls::within))]
+pub fn capacity(tracks: usize, sectors: usize, bytes: usize, room: usize) -> Result<(), Refusal>
     ensures { result ≡ capacity_of tracks sectors bytes room }
 {
     if TRACKS < tracks {
-        return Done::Refused(Refusal::TooManyTracks);
+        return Err(Refusal::TooManyTracks);
     }
     if SECTORS < sectors {
-        return Done::Refused(Refusal::TooManySectors);
+        return Err(Refusal::TooManySectors);
     }
     if room < bytes {
-        return Done::Refused(Refusal::NoRoom);
+        return Err(Refusal::NoRoom);
     }
-    Done::Good
-}
-
-// Loads an image that was surveyed as good.
-fn load(image: &[u8], totals: Totals, walk: Walk, table: &mut [u8], bytes: &mut [u8]) -> Done
-    requires { (length table.old ≡ table_length) × (Surveyed.Good totals walk ≡ survey_of image.now) }
-    ensures { outcome result table.new bytes.new
-        ≡ load_of image.now table.old bytes.old }
-{
-    let tracks = totals.tracks;
-    match capacity(tracks, totals.sectors, totals.bytes, room_of(bytes)) {
-        Done::Refused(why) => Done::Refused(why),
-        Done::Good => {
-            table[0] = tracks as u8;
-            lay_tracks(image, walk, table, bytes);
-            Done::Good
-        }
-    }
+    Ok(())
 }
 
 // Loads an image into a store: `Disk::new`. The image is read through before the first byte is written.
-pub fn new(image: &[u8], table: &mut [u8], bytes: &mut [u8]) -> Done
+pub fn new(image: &[u8], table: &mut [u8], bytes: &mut [u8]) -> Result<(), Refusal>
     ensures { outcome result table.new bytes.new
         ≡ load_of image.now table.old bytes.old }
 {
     if table.len() != TABLE {
-        return Done::Refused(Refusal::BadStore);
+        return Err(Refusal::BadStore);
     }
-    match image::survey(image) {
-        Surveyed::Refused(why) => Done::Refused(why),
-        Surveyed::Good(totals, walk) => load(image, totals, walk, table, bytes),
-    }
+    let (totals, walk) = image::survey(image)?;
+    capacity(totals.tracks, totals.sectors, totals.bytes, room_of(bytes))?;
+    table[0] = totals.tracks as u8;
+    lay_tracks(image, walk, table, bytes);
+    Ok(())
 }
 
 // Lays the rows of a formatted track's sectors: an ID each, and filler as long as the track's n says.
@@ -125,20 +107,15 @@ fn put_blanks(table: &mut [u8], start: usize, head: Head, ids: &[u8])
     ensures { table.new
         ≡ over table.old start (rows_for (formatted_by head ids.now).sectors []) }
 {
-    let count = head.sectors;
     let stored = size_of(head.size) as u16;
-    let mut k: u8 = 0;
-    let mut at = start;
-    while k < count {
+    for k in 0..head.sectors {
         let row = Row {
             id: tracks::id_at(ids, 4 * (k as usize)),
             st1: St1 { bits: 0 },
             st2: St2 { bits: 0 },
             stored,
         };
-        tracks::put_row(table, at, row);
-        at += 8;
-        k += 1;
+        tracks::put_row(table, start + 8 * (k as usize), row);
     }
 }
 
@@ -157,9 +134,7 @@ pub fn lay_formatted(
 {
     tracks::put_head(table, at, head);
     put_blanks(table, at + 6, head, ids);
-    let stored = head.stored as usize;
-    let filler = head.filler;
-    buffer::fill(bytes, place, stored, filler);
+    buffer::fill(bytes, place, head.stored as usize, head.filler);
 }
 
 // Lays a track of the fresh format.
@@ -168,9 +143,8 @@ fn lay_fresh_track(table: &mut [u8], at: usize, bytes: &mut [u8], place: usize, 
     ensures { (table.new ≡ over table.old at (track_for (fresh_track cylinder)))
         × (bytes.new ≡ over bytes.old place (contents (fresh_track cylinder).sectors)) }
 {
-    let mut space = [0u8; tracks::IDS];
-    let ids: &mut [u8] = &mut space;
-    tracks::number_ids(ids, cylinder, 0, 2, 9);
+    let mut ids = [0u8; tracks::IDS];
+    tracks::number_ids(&mut ids, cylinder, 0, 2, 9);
     let head = Head {
         cylinder,
         side: 0,
@@ -180,7 +154,7 @@ fn lay_fresh_track(table: &mut [u8], at: usize, bytes: &mut [u8], place: usize, 
         filler: 0xE5,
         stored: 4608,
     };
-    lay_formatted(table, at, bytes, place, head, ids);
+    lay_formatted(table, at, bytes, place, head, &ids);
 }
 
 // Lays the tracks of the fresh format.
@@ -189,28 +163,23 @@ fn lay_fresh(table: &mut [u8], bytes: &mut [u8])
     ensures { (table.new ≡ over table.old 1 (tracks_for (fresh_from 0 40) []))
         × (bytes.new ≡ over bytes.old 0 (data_of (fresh_from 0 40))) }
 {
-    let mut cylinder: u8 = 0;
-    let mut at: usize = 1;
-    let mut place: usize = 0;
-    while cylinder < 40 {
-        lay_fresh_track(table, at, bytes, place, cylinder);
-        at += 78;
-        place += 4608;
-        cylinder += 1;
+    for cylinder in 0..40u8 {
+        let k = cylinder as usize;
+        lay_fresh_track(table, 1 + 78 * k, bytes, 4608 * k, cylinder);
     }
 }
 
 // Puts the fresh format into a store.
-pub fn new_formatted(table: &mut [u8], bytes: &mut [u8]) -> Done
+pub fn new_formatted(table: &mut [u8], bytes: &mut [u8]) -> Result<(), Refusal>
     ensures { outcome result table.new bytes.new ≡ fresh_of table.old bytes.old }
 {
     if table.len() != TABLE {
-        return Done::Refused(Refusal::BadStore);
+        return Err(Refusal::BadStore);
     }
     if room_of(bytes) < 184320 {
-        return Done::Refused(Refusal::NoRoom);
+        return Err(Refusal::NoRoom);
     }
     table[0] = 40;
     lay_fresh(table, bytes);
-    Done::Good
+    Ok(())
 }

@@ -1,4 +1,5 @@
 // Laying a disk in a store: load, fresh format, and the parts of them that a format needs.
+// Table and data buffer are two slices in each call (docs/DECISIONS.md, 115).
 #![tactic(auto)]
 
 mod lay;

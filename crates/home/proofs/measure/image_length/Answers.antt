@@ -1,9 +1,9 @@
-use borrow.Author.Rules.{rules}
+use Rattle.fields.proofs.Exits.{handed_on}
 use Rattle.home.proofs.Judges.{extent-refused, extent-shaped}
 use Rattle.home.proofs.measure.image_length.Goals as goal
 
-pub returns-in-Refused : goal.returns-in-Refused
-returns-in-Refused c = search (rules, extent-refused)
+pub returns-in_err-judge : goal.returns-in_err-judge
+returns-in_err-judge c = handed_on _ _ _ c.from_residual.ensures.1 (extent-refused _ _ _ c.judge.ensures _ c.in_err-judge.was)
 
-pub returns-in-Of : goal.returns-in-Of
-returns-in-Of c = search (rules, extent-shaped)
+pub returns : goal.returns
+returns c = extent-shaped _ _ _ c.judge.ensures _ c.in_ok-judge.was

@@ -1,9 +1,10 @@
-use borrow.Author.Rules.{rules}
+use Rattle.fields.proofs.Exits.{handed_on}
 use Rattle.home.proofs.Judges.{judged-bad, judged-good}
 use Rattle.home.proofs.measure.judge.Goals as goal
 
-pub returns-in-Bad : goal.returns-in-Bad
-returns-in-Bad c = search (rules, judged-bad)
+pub returns-in_err-measure : goal.returns-in_err-measure
+returns-in_err-measure c =
+    handed_on _ _ _ c.from_residual.ensures.1 (judged-bad _ _ _ c.room_of.ensures.0 _ c.measure.ensures _ c.in_err-measure.was)
 
-pub returns-in-Of : goal.returns-in-Of
-returns-in-Of c = search (rules, judged-good)
+pub returns : goal.returns
+returns c = judged-good _ _ _ c.room_of.ensures.0 _ c.measure.ensures _ c.in_ok-measure.was _ c.shape_of.ensures

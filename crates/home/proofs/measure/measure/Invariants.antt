@@ -1,8 +1,6 @@
+use Prim.Native.Nat.{◌-◌}
 use Rattle.home.proofs.Meets.{Meeting}
 use Rattle.home.proofs.measure.measure.Given as goal
 
-abbrev pub invariant-loop-left : goal.invariant-loop-left
-invariant-loop-left l = Meeting l.table l.left l.at l.sectors l.bytes l.met
-
-abbrev pub decreases-loop-left : goal.decreases-loop-left
-decreases-loop-left l = l.left
+abbrev pub invariant-loop : goal.invariant-loop
+invariant-loop l = Meeting l.table (l.tracks - l.counter) l.at l.sectors l.bytes l.met

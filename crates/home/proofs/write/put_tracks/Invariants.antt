@@ -1,8 +1,7 @@
+use Prim.Native.Nat.{◌-◌}
+use Rattle.fields.specs.Bytes.{byte_at}
 use Rattle.home.proofs.Writes.{Putting}
 use Rattle.home.proofs.write.put_tracks.Given as goal
 
-abbrev pub invariant-loop-left : goal.invariant-loop-left
-invariant-loop-left l = Putting l.table l.bytes l.initial.block l.initial.image l.sides l.block l.image l.left l.at l.place l.to
-
-abbrev pub decreases-loop-left : goal.decreases-loop-left
-decreases-loop-left l = l.left
+abbrev pub invariant-loop : goal.invariant-loop
+invariant-loop l = Putting l.table l.bytes l.initial.block l.initial.image l.s.sides l.block l.image (byte_at l.table 0 - l.counter) l.at l.place l.to

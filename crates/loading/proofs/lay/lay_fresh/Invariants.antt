@@ -1,9 +1,5 @@
-use Prim.Native.Nat.{◌-◌}
 use Rattle.loading.proofs.Lays.{Freshing}
 use Rattle.loading.proofs.lay.lay_fresh.Given as goal
 
 abbrev pub invariant-loop-cylinder : goal.invariant-loop-cylinder
-invariant-loop-cylinder l = Freshing l.initial.table l.initial.bytes l.table l.bytes l.cylinder l.at l.place
-
-abbrev pub decreases-loop-cylinder : goal.decreases-loop-cylinder
-decreases-loop-cylinder l = 40 - l.cylinder
+invariant-loop-cylinder l = Freshing l.initial.table l.initial.bytes l.table l.bytes l.cylinder
