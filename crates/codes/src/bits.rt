@@ -1,4 +1,4 @@
-// The names of the bits of the main status register and of status registers 0 and 3; St1 and St2 stand in `fields`, since a disk keeps them.
+// The names of the bits of the main status register and of status registers 0 and 3, each with its register, as document 01 has them; St1 and St2 stand in `fields`, since a disk keeps them.
 ghost use Rattle.std.specs.Prelude.{◌≡◌};
 ghost use Rattle.codes.specs.Second.{u};
 
@@ -80,7 +80,7 @@ impl St3 {
 
     pub const FAULT: u8 = 0x80;
 
-    // The drive and the head that a command's second byte names.
+    // The drive and the head that a command's second byte names: the same bits, made under this register's name.
     pub fn from_c1(c1: u8) -> u8
         ensures { result ≡ u c1 }
     {

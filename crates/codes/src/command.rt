@@ -2,7 +2,7 @@
 ghost use Rattle.std.specs.Prelude.{◌≡◌};
 ghost use Rattle.codes.specs.Table.{mask_rows, command_by, command_of, bytes_for};
 
-#[derive(Clone, Copy)]
+#[derive(Clone, Copy, PartialEq, Eq)]
 pub enum Command {
     Specify,
     SenseDrive,
@@ -63,7 +63,7 @@ fn mask_command(c: u8) -> Command
     Command::Invalid
 }
 
-// The command that this first byte begins.
+// The command that this first byte begins. Tests in a row: the last arm of a `match` on numbers tells a proof nothing of those before it.
 pub fn command_of(c: u8) -> Command
     ensures { result ≡ command_of c }
 {

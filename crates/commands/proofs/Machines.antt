@@ -5,8 +5,7 @@ use mathlib.Core.Bool.{Bool, true, false, not}
 use mathlib.Core.List.{[], ◌∷◌}
 use lib.Dec.{eqb}
 use Rattle.fields.proofs.Tests.{never}
-use Rattle.registers.specs.Boxes.{Machine, Rust, DataSheet}
-use Rattle.registers.specs.Boxes.{Stay, Reply}
+use Rattle.registers.specs.Boxes.{Machine, Rust, DataSheet, Stay, Reply}
 use Rattle.registers.specs.View.{is_rust}
 use Rattle.commands.specs.Commands.{no_seek, invalid, has_phase}
 

@@ -14,11 +14,10 @@ ghost use Rattle.commands.specs.Commands.{read_id, shape_of, track_as, numbered_
 ghost use Rattle.commands.specs.Lent.{Fills, Stores, ran, read_here, at_once_here, format_here, into_here, ran_here};
 
 use codes::{Command, St0, St3, drive_of, head_of};
-use disk::{Reading, Served};
-use fields::{SectorId, St1, St2};
+use disk::Served;
+use fields::{Refusal, SectorId, St1, St2};
 use formatting::Format;
-use registers::{Goal, Regs, Seek, Shape, Written, fitted, is_rust};
-use store::{Done, Has, IdFound};
+use registers::{Answered, Goal, Regs, Report, Seek, Shape, fitted, is_rust};
 
 // The sector that bytes 2 to 5 of a command name.
 fn sector_id(command: [u8; 9]) -> SectorId
@@ -32,7 +31,9 @@ fn sector_id(command: [u8; 9]) -> SectorId
     }
 }
 
-// What a read replies as st2: the first sector's, its control mark flipped by Read Deleted.
+// What a read replies as st2: the first sector's, its control mark flipped by Read Deleted. The two reads differ in this bit alone, so a flag tells
+// them apart.
+#[tactic(auto, unfolding(crate::specs::Commands::mark_of, fields::specs::Bytes::flip_bit))]
 fn mark_st2(deleted: bool, st2: u8) -> u8
     ensures { result ≡ mark_of deleted st2 }
 {
@@ -58,6 +59,7 @@ fn no_id() -> SectorId
 }
 
 // The reply where no sector is found.
+#[tactic(auto, unfolding(crate::specs::Commands::missing))]
 fn missing(regs: Regs, c1: u8) -> Regs
     ensures { result ≡ replied (missing c1) regs }
 {
@@ -72,28 +74,30 @@ fn not_ready(regs: Regs, c1: u8, id: SectorId) -> Regs
     regs.reply7(st0, 0, 0, id)
 }
 
+#[tactic(auto, unfolding(crate::specs::Commands::sense_if))]
 fn sense_drive(regs: Regs, c1: u8) -> Regs
     ensures { result ≡ replied (sense_if c1 (drive_named c1 regs).cylinder (drive_named c1 regs).disk) regs }
 {
     let d = regs.named(c1);
     if !d.disk {
-        return regs.reply1(St3::FAULT + drive_of(c1));
+        return regs.replied(&[St3::FAULT + drive_of(c1)]);
     }
     let st3 = St3::from_c1(c1) + (St3::READY + St3::TWO_SIDE);
     if d.cylinder == 0 {
-        return regs.reply1(st3 + St3::TRACK_0);
+        return regs.replied(&[st3 + St3::TRACK_0]);
     }
-    regs.reply1(st3)
+    regs.replied(&[st3])
 }
 
 // Recalibrate and Seek.
-fn seek(regs: Regs, c1: u8, cylinder: u8) -> Written
+#[tactic(auto, unfolding(crate::specs::Commands::seek_if, registers::specs::Settle::regs_of, registers::specs::Settle::regs_all, registers::specs::Settle::regs_responded))]
+fn seek(regs: Regs, c1: u8, cylinder: u8) -> Answered<Report>
     ensures { result ≡ regs_of (seek_if (fitted c1) cylinder) regs }
 {
     if !fitted(c1) {
         return regs.done();
     }
-    regs.moved(cylinder, Seek::Running).reply0().done()
+    regs.moved(cylinder, Seek::Running).replied(&[]).done()
 }
 
 // Sense Interrupt with no seek to tell of.
@@ -101,35 +105,35 @@ fn no_seek(regs: Regs, c: u8) -> Regs
     ensures { result ≡ replied (no_seek (setting_of regs.setting).machine c) regs }
 {
     if is_rust(regs.setting) {
-        return regs.reply2(St0::UNKNOWN, c);
+        return regs.replied(&[St0::UNKNOWN, c]);
     }
-    regs.reply1(St0::UNKNOWN)
+    regs.replied(&[St0::UNKNOWN])
 }
 
+#[tactic(auto, unfolding(registers::specs::Settle::regs_responded, registers::specs::Settle::interrupted_by))]
 fn sense_interrupt(regs: Regs) -> Regs
     ensures { result ≡ regs_responded (Interrupt regs.drive.cylinder (no_seek (setting_of regs.setting).machine regs.drive.cylinder)) regs }
 {
-    let d = regs.drive;
-    let c = d.cylinder;
-    let s = d.seek;
-    match s {
-        Seek::Idle => no_seek(regs, c),
-        Seek::Running => regs.moved(c, Seek::Done).reply2(St0::SEEK_END, c),
-        Seek::Done => no_seek(regs, c),
+    let c = regs.drive.cylinder;
+    match regs.drive.seek {
+        Seek::Running => regs.moved(c, Seek::Done).replied(&[St0::SEEK_END, c]),
+        Seek::Idle | Seek::Done => no_seek(regs, c),
     }
 }
 
 // A first byte that is no command's.
+#[tactic(auto, unfolding(registers::specs::Settle::regs_responded))]
 fn invalid(regs: Regs) -> Regs
     ensures { result ≡ regs_responded (invalid (setting_of regs.setting).machine) regs }
 {
     if is_rust(regs.setting) {
         return regs;
     }
-    regs.reply1(St0::UNKNOWN)
+    regs.replied(&[St0::UNKNOWN])
 }
 
 // Read ID, not ready: a reply only if no reply byte is unread.
+#[tactic(auto, unfolding(registers::specs::Settle::regs_responded, registers::specs::Settle::if_unread))]
 fn id_not_ready(regs: Regs, c1: u8) -> Regs
     ensures { result ≡ regs_responded (ReplyIfNone (not_ready c1 not_ready_id)) regs }
 {
@@ -145,7 +149,7 @@ fn id_not_ready(regs: Regs, c1: u8) -> Regs
     not_ready(regs, c1, id)
 }
 
-fn read_id(regs: Regs, c1: u8, table: &[u8], bytes: &[u8]) -> Written
+fn read_id(regs: Regs, c1: u8, table: &[u8], bytes: &[u8]) -> Answered<Report>
     ensures { result ≡ regs_of (read_id c1 regs.index (named_in c1 regs table.now bytes.now)) regs }
 {
     let d = regs.named(c1);
@@ -153,14 +157,14 @@ fn read_id(regs: Regs, c1: u8, table: &[u8], bytes: &[u8]) -> Written
         return id_not_ready(regs, c1).done();
     }
     match store::id_by_idx(table, bytes, head_of(c1), d.cylinder, regs.index) {
-        IdFound::Refused(why) => regs.refused(why),
-        IdFound::Missing => missing(regs.turned(), c1).done(),
-        IdFound::Of(id) => regs.turned().reply7(St0::from_c1(c1), 0, 0, id).done(),
+        Err(why) => regs.refused(why),
+        Ok(None) => missing(regs.turned(), c1).done(),
+        Ok(Some(id)) => regs.turned().reply7(St0::from_c1(c1), 0, 0, id).done(),
     }
 }
 
 // A write starts where its sector is found.
-fn write_data(regs: Regs, c1: u8, id: SectorId, table: &[u8], bytes: &[u8]) -> Written
+fn write_data(regs: Regs, c1: u8, id: SectorId, table: &[u8], bytes: &[u8]) -> Answered<Report>
     ensures { result ≡ regs_of (write_data c1 id (named_in c1 regs table.now bytes.now)) regs }
 {
     let d = regs.named(c1);
@@ -168,29 +172,30 @@ fn write_data(regs: Regs, c1: u8, id: SectorId, table: &[u8], bytes: &[u8]) -> W
         return not_ready(regs, c1, no_id()).done();
     }
     match store::has_sector(table, bytes, head_of(c1), d.cylinder, id) {
-        Has::Refused(why) => regs.refused(why),
-        Has::No => missing(regs, c1).done(),
-        Has::Yes(sector) => regs.started(c1, Goal::IntoSector(id)).found(sector),
+        Err(why) => regs.refused(why),
+        Ok(None) => missing(regs, c1).done(),
+        Ok(Some(sector)) => regs.started(c1, Goal::IntoSector(id)).found(sector),
     }
 }
 
 // The data that a read has put into the transfer buffer, and its reply.
-fn served(mut regs: Regs, deleted: bool, command: [u8; 9], got: Served) -> Regs
+#[tactic(auto, unfolding(crate::specs::Commands::read_reply))]
+fn served(regs: Regs, deleted: bool, command: [u8; 9], got: Served) -> Regs
     requires { got.total ≤ most_transfer }
     ensures { result ≡ replied (read_reply deleted command got.total got.sizes got.st1.bits got.st2.bits)
         (regs_with_unread 0 got.total regs.lost regs) }
 {
-    let st2 = got.st2;
-    regs.from = 0;
-    regs.until = got.total as u32;
     let id = SectorId {
-        c: command[2],
-        h: command[3],
         r: command[6],
-        n: command[5],
+        ..sector_id(command)
     };
     let st0 = St0::from_c1(command[1]) + St0::FAIL;
-    regs.reply7(st0, got.end_st1(), mark_st2(deleted, st2.bits), id)
+    let regs = Regs {
+        from: 0,
+        until: got.total as u32,
+        ..regs
+    };
+    regs.reply7(st0, got.end_st1(), mark_st2(deleted, got.st2.bits), id)
 }
 
 fn read_data(
@@ -200,7 +205,7 @@ fn read_data(
     table: &[u8],
     bytes: &[u8],
     transfer: &mut [u8],
-) -> Written
+) -> Answered<Report>
     ensures { Fills (read_here deleted command regs table.now bytes.now transfer.old)
         regs transfer.old result transfer.new }
 {
@@ -219,12 +224,9 @@ fn read_data(
         command[6],
         transfer,
     ) {
-        Reading::Refused(why) => regs.refused(why),
-        Reading::Missing => missing(regs, c1).done(),
-        Reading::Good(got) => {
-            let sector = got.sector;
-            served(regs, deleted, command, got).found(sector)
-        }
+        Err(why) => regs.refused(why),
+        Ok(None) => missing(regs, c1).done(),
+        Ok(Some(got)) => served(regs, deleted, command, got).found(got.sector),
     }
 }
 
@@ -248,7 +250,7 @@ fn lay_track(
     ids: &[u8],
     table: &mut [u8],
     bytes: &mut [u8],
-) -> Done
+) -> Result<(), Refusal>
     ensures { outcome result table.new bytes.new
         ≡ set_of (head_of c1) cylinder (track_as c1 cylinder shape (ids_at ids.now 0 shape.sectors)) table.old bytes.old }
 {
@@ -264,16 +266,20 @@ fn lay_track(
 }
 
 // The same with numbered IDs, as the Rust has them.
-fn lay_numbered(command: [u8; 9], cylinder: u8, table: &mut [u8], bytes: &mut [u8]) -> Done
+fn lay_numbered(
+    command: [u8; 9],
+    cylinder: u8,
+    table: &mut [u8],
+    bytes: &mut [u8],
+) -> Result<(), Refusal>
     ensures { outcome result table.new bytes.new
         ≡ set_of (head_of (get_or command 1 0)) cylinder (track_as (get_or command 1 0) cylinder (shape_of command) (numbered_for command cylinder))
         table.old bytes.old }
 {
     let c1 = command[1];
-    let mut space = [0u8; tracks::IDS];
-    let ids: &mut [u8] = &mut space;
-    tracks::number_ids(ids, cylinder, head_of(c1), command[2], command[3]);
-    lay_track(c1, cylinder, shape_of(command), ids, table, bytes)
+    let mut ids = [0; tracks::IDS];
+    tracks::number_ids(&mut ids, cylinder, head_of(c1), command[2], command[3]);
+    lay_track(c1, cylinder, shape_of(command), &ids, table, bytes)
 }
 
 // The reply to a Format, whether its track was laid or the disk was out.
@@ -290,26 +296,30 @@ fn format_reply(regs: Regs, c1: u8, n: u8) -> Regs
 }
 
 // A Format that takes no ID bytes.
-fn format_at_once(regs: Regs, command: [u8; 9], table: &mut [u8], bytes: &mut [u8]) -> Written
+fn format_at_once(
+    regs: Regs,
+    command: [u8; 9],
+    table: &mut [u8],
+    bytes: &mut [u8],
+) -> Answered<Report>
     ensures { (x : List ℕ) → Stores (at_once_here command regs table.old bytes.old x)
         regs table.old bytes.old result table.new bytes.new }
 {
     let c1 = command[1];
     let n = command[2];
     let d = regs.named(c1);
-    let cylinder = d.cylinder;
     if !d.disk {
         let id = SectorId {
-            c: cylinder,
+            c: d.cylinder,
             h: head_of(c1),
             r: 0,
             n,
         };
         return not_ready(regs, c1, id).done();
     }
-    match lay_numbered(command, cylinder, table, bytes) {
-        Done::Refused(why) => regs.refused(why),
-        Done::Good => format_reply(regs, c1, n).done(),
+    match lay_numbered(command, d.cylinder, table, bytes) {
+        Err(why) => regs.refused(why),
+        Ok(()) => format_reply(regs, c1, n).done(),
     }
 }
 
@@ -317,17 +327,15 @@ fn format_at_once(regs: Regs, command: [u8; 9], table: &mut [u8], bytes: &mut [u
 fn has_phase(regs: Regs, c1: u8, count: u8) -> bool
     ensures { result ≡ has_phase (setting_of regs.setting).machine count (drive_named c1 regs).disk }
 {
-    if is_rust(regs.setting) {
-        return false;
-    }
-    let d = regs.named(c1);
-    if !d.disk {
-        return false;
-    }
-    count != 0
+    !is_rust(regs.setting) && regs.named(c1).disk && count != 0
 }
 
-fn format_track(regs: Regs, command: [u8; 9], table: &mut [u8], bytes: &mut [u8]) -> Written
+fn format_track(
+    regs: Regs,
+    command: [u8; 9],
+    table: &mut [u8],
+    bytes: &mut [u8],
+) -> Answered<Report>
     ensures { (x : List ℕ) → Stores (format_here command regs table.old bytes.old x)
         regs table.old bytes.old result table.new bytes.new }
 {
@@ -345,7 +353,7 @@ pub fn finish_format(
     ids: &[u8],
     table: &mut [u8],
     bytes: &mut [u8],
-) -> Written
+) -> Answered<Report>
     ensures { (x : List ℕ) → Stores (into_here (IntoTrack shape) ids.now regs table.old bytes.old x)
         regs table.old bytes.old result table.new bytes.new }
 {
@@ -356,12 +364,12 @@ pub fn finish_format(
         return r.done();
     }
     match lay_track(c1, d.cylinder, shape, ids, table, bytes) {
-        Done::Refused(why) => regs.refused(why),
-        Done::Good => r.done(),
+        Err(why) => regs.refused(why),
+        Ok(()) => r.done(),
     }
 }
 
-// A whole command.
+// A whole command. Each case takes other parts of it, so they stand in one `match`.
 pub fn run_cmd(
     regs: Regs,
     which: Command,
@@ -369,23 +377,22 @@ pub fn run_cmd(
     table: &mut [u8],
     bytes: &mut [u8],
     transfer: &mut [u8],
-) -> Written
+) -> Answered<Report>
     ensures { ran result table.new bytes.new transfer.new
         ≡ ran_here which command regs table.old bytes.old transfer.old }
 {
     match which {
-        Command::Specify => regs.done(),
+        Command::Specify | Command::Unserved => regs.done(),
         Command::SenseDrive => sense_drive(regs, command[1]).done(),
         Command::Recalibrate => seek(regs, command[1], 0),
         Command::SenseInterrupt => sense_interrupt(regs).done(),
         Command::SeekTo => seek(regs, command[1], command[2]),
-        Command::Version => regs.reply1(0x80).done(),
+        Command::Version => regs.replied(&[0x80]).done(),
         Command::ReadData => read_data(regs, false, command, table, bytes, transfer),
         Command::ReadDeleted => read_data(regs, true, command, table, bytes, transfer),
         Command::WriteData => write_data(regs, command[1], sector_id(command), table, bytes),
         Command::ReadId => read_id(regs, command[1], table, bytes),
         Command::FormatTrack => format_track(regs, command, table, bytes),
-        Command::Unserved => regs.done(),
         Command::Invalid => invalid(regs).done(),
     }
 }

@@ -1,4 +1,5 @@
 // The commands of the controller, over registers by value; table, data and transfer buffer are lent.
+// Table and data buffer are two slices in each call (docs/DECISIONS.md, 115).
 #![tactic(auto)]
 
 mod command;

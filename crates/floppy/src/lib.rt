@@ -2,12 +2,11 @@
 #![tactic(auto)]
 
 ghost use Rattle.std.specs.Prelude.{◌≡◌};
-ghost use Rattle.floppy.specs.Calls.{new_floppy, shown, sent_as, changed_as, wrote, status_call, read_call, write_call};
+ghost use Rattle.floppy.specs.Calls.{new_floppy, shown, shown_as, changed_as, wrote, status_call, read_call, write_call};
 ghost use Rattle.registers.specs.Calls.{motor_set, disk_set, motor_of, current_track, disk_in, setting_in};
 
-use fields::HELD;
-use registers::{Byte, Drive, Flag, Pending, Receipt, Regs, Seek};
-use store::Done;
+use fields::{HELD, Refusal};
+use registers::{Answered, Drive, Pending, Regs, Report, Seek};
 
 // A controller: its registers, and beside them the bytes of an unfinished write.
 #[derive(Clone, Copy)]
@@ -16,24 +15,10 @@ pub struct Floppy {
     pub held: [u8; HELD],
 }
 
-// What a port read answers, with the controller then.
+// What a call answers, or why it was refused, with the controller then. `Answered` of `registers` has the registers there: promises name either.
 #[derive(Clone, Copy)]
-pub struct Shown {
-    pub byte: Byte,
-    pub floppy: Floppy,
-}
-
-// What a byte sent answers, with the controller then.
-#[derive(Clone, Copy)]
-pub struct After {
-    pub receipt: Receipt,
-    pub floppy: Floppy,
-}
-
-// What a change of motor or disk answers, with the controller then.
-#[derive(Clone, Copy)]
-pub struct Changed {
-    pub done: Done,
+pub struct Shown<T> {
+    pub answer: Result<T, Refusal>,
     pub floppy: Floppy,
 }
 
@@ -46,14 +31,10 @@ impl Floppy {
     }
 
     // A new controller with a setting, of which bit 0 is the machine: 0 the Rust's, 1 the data sheet's. Other bits mean nothing yet.
+    #[tactic(auto, unfolding(crate::specs::Calls::new_floppy))]
     pub fn new_with(setting: u8) -> Floppy
         ensures { result ≡ new_floppy setting }
     {
-        let drive = Drive {
-            cylinder: 0,
-            seek: Seek::Idle,
-            disk: false,
-        };
         let regs = Regs {
             command: [0; 9],
             count: 0,
@@ -66,7 +47,11 @@ impl Floppy {
             motor: false,
             index: 0,
             write: Pending::none(),
-            drive,
+            drive: Drive {
+                cylinder: 0,
+                seek: Seek::Idle,
+                disk: false,
+            },
             setting: setting % 2,
         };
         Floppy {
@@ -75,99 +60,85 @@ impl Floppy {
         }
     }
 
-    pub fn set_motor(self, motor: bool) -> Changed
+    // What the registers answer, with the controller then.
+    fn with<T>(self, a: Answered<T>) -> Shown<T>
+        ensures { result ≡ shown_as a self.held }
+    {
+        Shown {
+            answer: a.answer,
+            floppy: Floppy {
+                regs: a.regs,
+                ..self
+            },
+        }
+    }
+
+    pub fn set_motor(self, motor: bool) -> Shown<()>
         ensures { result ≡ changed_as (motor_set motor self.regs) self.held }
     {
-        let regs = self.regs;
-        let a = regs.set_motor(motor);
-        let done = a.done;
-        let after = a.regs;
-        let held = self.held;
-        let floppy = Floppy { regs: after, held };
-        Changed { done, floppy }
+        self.with(self.regs.set_motor(motor))
     }
 
-    pub fn motor(self) -> Flag
+    pub fn motor(self) -> Result<bool, Refusal>
         ensures { result ≡ motor_of self.regs }
     {
-        let regs = self.regs;
-        regs.motor()
+        self.regs.motor()
     }
 
-    pub fn current_track(self) -> Byte
+    pub fn current_track(self) -> Result<u8, Refusal>
         ensures { result ≡ current_track self.regs }
     {
-        let regs = self.regs;
-        regs.current_track()
+        self.regs.current_track()
     }
 
     // Whether a disk is in the drive.
-    pub fn disk(self) -> Flag
+    pub fn disk(self) -> Result<bool, Refusal>
         ensures { result ≡ disk_in self.regs }
     {
-        let regs = self.regs;
-        regs.disk()
+        self.regs.disk()
     }
 
     // The setting that the controller was made with.
-    pub fn setting(self) -> Byte
+    pub fn setting(self) -> Result<u8, Refusal>
         ensures { result ≡ setting_in self.regs }
     {
-        let regs = self.regs;
-        regs.setting()
+        self.regs.setting()
     }
 
     // Another disk is in the drive, the one in the store that is lent from now on, or none. All else is carried over, a write in progress included.
-    pub fn set_disk(self, present: bool) -> Changed
+    pub fn set_disk(self, present: bool) -> Shown<()>
         ensures { result ≡ changed_as (disk_set present self.regs) self.held }
     {
-        let regs = self.regs;
-        let a = regs.set_disk(present);
-        let done = a.done;
-        let after = a.regs;
-        let held = self.held;
-        let floppy = Floppy { regs: after, held };
-        Changed { done, floppy }
+        self.with(self.regs.set_disk(present))
     }
 
     // A byte sent to the data port. A refused one is not taken and may be sent again.
-    pub fn write_step(self, b: u8, table: &mut [u8], bytes: &mut [u8], transfer: &mut [u8]) -> After
+    pub fn write_step(
+        mut self,
+        b: u8,
+        table: &mut [u8],
+        bytes: &mut [u8],
+        transfer: &mut [u8],
+    ) -> Shown<Report>
         ensures { wrote result table.new bytes.new transfer.new
             ≡ write_call self b table.old bytes.old transfer.old }
     {
-        let regs = self.regs;
-        let mut held = self.held;
-        let a = sending::write_cmd(regs, b, &mut held, table, bytes, transfer);
-        let receipt = a.receipt;
-        let after = a.regs;
-        let floppy = Floppy { regs: after, held };
-        After { receipt, floppy }
+        let a = sending::write_cmd(self.regs, b, &mut self.held, table, bytes, transfer);
+        self.with(a)
     }
 
     // A read of the data port.
-    pub fn read_step(self, transfer: &[u8]) -> Shown
+    pub fn read_step(self, transfer: &[u8]) -> Shown<u8>
         ensures { result ≡ read_call self transfer.now }
     {
-        let regs = self.regs;
-        let a = regs.read_cmd(transfer);
-        let byte = a.answer;
-        let after = a.regs;
-        let held = self.held;
-        let floppy = Floppy { regs: after, held };
-        Shown { byte, floppy }
+        self.with(self.regs.read_cmd(transfer))
     }
 
     // A read of the main status.
-    pub fn status_step(self) -> Shown
+    pub fn status_step(self) -> Shown<u8>
         ensures { result ≡ status_call self }
     {
-        let regs = self.regs;
-        let a = regs.read_status();
-        let byte = a.answer;
-        let after = a.regs;
-        let held = self.held;
-        let floppy = Floppy { regs: after, held };
-        Shown { byte, floppy }
+        self.with(self.regs.read_status())
     }
 
     // The same three over a controller that is lent to be changed, as the Rust has them. A port read copies the registers and no held byte.
@@ -178,58 +149,28 @@ impl Floppy {
         table: &mut [u8],
         bytes: &mut [u8],
         transfer: &mut [u8],
-    ) -> Receipt
-        ensures { wrote (sent_as result self.new) table.new bytes.new transfer.new
+    ) -> Result<Report, Refusal>
+        ensures { wrote (shown result self.new) table.new bytes.new transfer.new
             ≡ write_call self.old b table.old bytes.old transfer.old }
     {
-        let c = *self;
-        let a = c.write_step(b, table, bytes, transfer);
+        let a = self.write_step(b, table, bytes, transfer);
         *self = a.floppy;
-        a.receipt
+        a.answer
     }
 
-    pub fn read_cmd(&mut self, transfer: &[u8]) -> Byte
+    pub fn read_cmd(&mut self, transfer: &[u8]) -> Result<u8, Refusal>
         ensures { shown result self.new ≡ read_call self.old transfer.now }
     {
-        let g = self.regs;
-        let a = g.read_cmd(transfer);
+        let a = self.regs.read_cmd(transfer);
         self.regs = a.regs;
         a.answer
     }
 
-    pub fn read_status(&mut self) -> Byte
+    pub fn read_status(&mut self) -> Result<u8, Refusal>
         ensures { shown result self.new ≡ status_call self.old }
     {
-        let g = self.regs;
-        let a = g.read_status();
+        let a = self.regs.read_status();
         self.regs = a.regs;
         a.answer
-    }
-
-    // The same three for code that the borrow checker covers: the controller is lent for the call and comes back.
-
-    pub fn write_lent(self, b: u8, table: &mut [u8], bytes: &mut [u8], transfer: &mut [u8]) -> After
-        ensures { wrote result table.new bytes.new transfer.new
-            ≡ write_call self b table.old bytes.old transfer.old }
-    {
-        let mut f = self;
-        let receipt = f.write_cmd(b, table, bytes, transfer);
-        After { receipt, floppy: f }
-    }
-
-    pub fn read_lent(self, transfer: &[u8]) -> Shown
-        ensures { result ≡ read_call self transfer.now }
-    {
-        let mut f = self;
-        let byte = f.read_cmd(transfer);
-        Shown { byte, floppy: f }
-    }
-
-    pub fn status_lent(self) -> Shown
-        ensures { result ≡ status_call self }
-    {
-        let mut f = self;
-        let byte = f.read_status();
-        Shown { byte, floppy: f }
     }
 }

@@ -1,6 +1,5 @@
 -- The drive that a command names, as the registers tell of it and as the boxes show it.
 use Rattle.std.proofs.Common.{◌≡◌, ℕ, Bool, true, false, List, sym, refl, ◌∙◌}
-use Rattle.fields.specs.Refusals.{Result}
 use Rattle.fields.specs.Model.{Disk}
 use Rattle.store.specs.Store.{disk_of}
 use Rattle.registers.specs.declared.regs.Regs.{Regs}
@@ -8,8 +7,10 @@ use Rattle.registers.specs.declared.regs.Drive.{Drive}
 use Rattle.registers.specs.Boxes.{Empty, Holds, fitted, named_if, named}
 use Rattle.registers.specs.View.{slot_if, named_in, named_as}
 use Rattle.registers.specs.Settle.{drive_if, drive_named}
+use Rattle.std.specs.Prelude.{Result}
+use Rattle.fields.specs.declared.refusal.Refusal.{Refusal}
 
-shown : (f : Bool) (d : Drive) (disk : Result Disk)
+shown : (f : Bool) (d : Drive) (disk : Result Disk Refusal)
     → named_if f (record { cylinder = d.cylinder; slot = slot_if d.disk disk }) ≡ named_as f (drive_if f d) (slot_if (drive_if f d).disk disk)
 shown true d disk = refl
 shown false d disk = refl

@@ -11,8 +11,7 @@ use Rattle.registers.specs.declared.regs.Goal.{Goal}
 use Rattle.registers.specs.declared.regs.Pending.{Pending}
 use Rattle.registers.specs.declared.regs.Seek.{Seek}
 use Rattle.registers.specs.declared.regs.Seek.TheVariants.{Idle, Running, Done}
-use Rattle.registers.specs.Boxes.{setting_of}
-use Rattle.registers.specs.Boxes.{whole_of, Add, Hold, Change, Clear, MoveTo, Turn, Start, Finish}
+use Rattle.registers.specs.Boxes.{setting_of, whole_of, Add, Hold, Change, Clear, MoveTo, Turn, Start, Finish}
 use Rattle.registers.specs.Boxes.{Response, Stay, Reply, ReplyIfNone, Seeking, Interrupt, Serve}
 use Rattle.registers.specs.Ports.{settled, Poll, Stays, Counts, Drops, poll_by, source_by}
 use Rattle.registers.specs.View.{goal_of, wrong_work, wrong_write, impossible, impossible_in}

@@ -14,11 +14,10 @@ use Rattle.registers.specs.declared.regs.Goal.{Goal}
 use Rattle.registers.specs.declared.regs.Goal.TheVariants.{IntoSector, IntoTrack}
 use Rattle.registers.specs.declared.regs.Shape.{Shape}
 use Rattle.codes.specs.Table.{command_of, bytes_for}
-use Rattle.registers.specs.Boxes.{Setting}
+use Rattle.registers.specs.Boxes.{Setting, machine_if, whole_of, fitted}
 use Rattle.registers.specs.View.{goal_if, goal_of, is_rust, unknown_to, impossible, impossible_in, wrong_work, wrong_write}
 use Rattle.codes.proofs.Rows.{bytes-range}
 use Rattle.store.proofs.Checks.{transfer-in}
-use Rattle.registers.specs.Boxes.{machine_if, whole_of, fitted}
 use Rattle.registers.specs.Settle.{track_in, target_in}
 use Rattle.registers.specs.Possible.{Possible}
 

@@ -5,14 +5,13 @@ use Rattle.fields.proofs.Tests.{never}
 use Rattle.store.specs.Store.{disk_of}
 use Rattle.registers.specs.declared.regs.Regs.{Regs}
 use Rattle.registers.specs.declared.regs.Pending.{Pending}
-use Rattle.registers.specs.declared.regs.Byte.TheVariants as byte
-use Rattle.registers.specs.declared.regs.Flag.TheVariants as flag
 use Rattle.registers.specs.Boxes.{Slot, World}
 use Rattle.registers.specs.Ports.{settled, some?, on?, status, Poll, Stays, Counts, Drops, poll_by, polled, settled_in, after_status, Source, Bytes, Replies, Neither, source_by, given, read_from, port_byte, after_read, set_motor, change_disk}
 use Rattle.registers.specs.View.{slot_if, slot_of, writing_if, inside_of, front_of, world_of, impossible_in, Shows, Leaves}
 use Rattle.registers.specs.Settle.{sought}
 use Rattle.registers.specs.Calls.{status_of, regs_polled, after_status_of, status_read, source_of, byte_from, regs_read, data_read, motor_set, disk_set, motor_of, current_track}
 use Rattle.registers.proofs.Numbers.{possible, possible-in, until-long, count-few}
+use Rattle.std.specs.Prelude.{Ok}
 
 -- ---- whether a box is empty
 
@@ -102,7 +101,7 @@ module _ (r : Regs) (h t b x : List ℕ) (ok : impossible_in x r ≡ false) (lon
   -- a status read answers the status and leaves the boxes after it
   pub status-seen : Shows h t b x (status_read r) (status W) (after_status W)
   unfolding status_read
-  status-seen = rw (possible-in x r ok) (ap byte.Of status-is, status-after)
+  status-seen = rw (possible-in x r ok) (ap Ok status-is, status-after)
 
   -- ---- Data-port read
 
@@ -149,7 +148,7 @@ module _ (r : Regs) (h t b x : List ℕ) (ok : impossible_in x r ≡ false) (lon
       let d : Due (source_of r) = due (ltb r.from r.until) (ltb r.place r.fill) refl refl in
       let n = given_is (source_of r) d ∙ ap (λ (q : Source). given q (front_of r x)) source_is in
       let f = read-front (source_of r) d ∙ ap (λ (q : Source). read_from q (front_of r x)) source_is in
-      rw ok (ap byte.Of n, λ k. record { inside = read-inside (source_of r) k; front = f k })
+      rw ok (ap Ok n, λ k. record { inside = read-inside (source_of r) k; front = f k })
 
   -- ---- Motor, track and disk
 
@@ -162,10 +161,10 @@ module _ (r : Regs) (h t b x : List ℕ) (ok : impossible_in x r ≡ false) (lon
   unfolding disk_set change_disk inside_of front_of
   disk-seen present t' b' = rw (possible-in x r ok) (refl, refl)
 
-  pub motor-told : motor_of r ≡ flag.Of W.inside.motor
+  pub motor-told : motor_of r ≡ Ok W.inside.motor
   unfolding motor_of inside_of
   motor-told = rw (possible-in x r ok)
 
-  pub track-told : current_track r ≡ byte.Of W.inside.drives.first.cylinder
+  pub track-told : current_track r ≡ Ok W.inside.drives.first.cylinder
   unfolding current_track inside_of
   track-told = rw (possible-in x r ok)

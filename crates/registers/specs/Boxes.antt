@@ -1,7 +1,6 @@
 -- The boxes that a controller has, and the changes that a byte sent to it can bring (01, "Status and data ports").
-use Rattle.std.specs.Prelude.{ℕ, ◌+◌, ◌*◌, ◌%◌, min, Bool, true, false, List, [], ◌∷◌, ◌++◌, ◌==◌}
+use Rattle.std.specs.Prelude.{ℕ, ◌+◌, ◌*◌, ◌%◌, min, Bool, true, false, List, [], ◌∷◌, ◌++◌, ◌==◌, Result, Ok}
 use Rattle.std.proofs.Math.Option.{Option, none, some}
-use Rattle.fields.specs.Refusals.{Result, good}
 use Rattle.fields.specs.Model.{size_of, Disk}
 use Rattle.fields.specs.declared.id.SectorId.{SectorId}
 use Rattle.store.specs.declared.answer.Match.{Match}
@@ -12,6 +11,7 @@ use Rattle.registers.specs.declared.regs.Goal.{Goal}
 use Rattle.registers.specs.declared.regs.Goal.TheVariants.{IntoSector, IntoTrack}
 use Rattle.registers.specs.declared.regs.Seek.{Seek}
 use Rattle.registers.specs.declared.regs.Seek.TheVariants.{Idle, Running, Done}
+use Rattle.fields.specs.declared.refusal.Refusal.{Refusal}
 
 -- ---- What is lent
 
@@ -50,7 +50,7 @@ sheet_machine = record { machine = DataSheet }
 -- the drive: no disk, or a disk; the store of one that breaks the layout has its refusal in the disk's place
 pub data Slot : Type 0 where
   Empty : Slot
-  Holds : Result Disk → Slot
+  Holds : Result Disk Refusal → Slot
 
 -- a drive: the cylinder that its head is over, and what is in it
 pub record Bay : Type 0 where
@@ -226,7 +226,7 @@ with_slot x i = with_drives (loaded_with x i.drives) i
 
 unfoldable pub put_in : Option Disk → Inside → Inside
 put_in none i = i
-put_in (some d) i = with_slot (Holds (good d)) i
+put_in (some d) i = with_slot (Holds (Ok d)) i
 
 -- the front with another reply
 abbrev pub with_reply : List ℕ → Front → Front

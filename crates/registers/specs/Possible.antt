@@ -2,9 +2,7 @@
 use Rattle.std.specs.Prelude.{◌≡◌, ℕ, ◌<◌, ◌≤◌, false, List, [], ◌∷◌, length, slice_index}
 use Rattle.codes.specs.Table.{command_of, bytes_for}
 use Rattle.registers.specs.declared.regs.Regs.{Regs}
-use Rattle.registers.specs.Boxes.{Setting}
-use Rattle.registers.specs.Boxes.{setting_of, Change, Clear, MoveTo, Turn, Start, Finish}
-use Rattle.registers.specs.Boxes.{Response, Stay, Reply, ReplyIfNone, Seeking, Interrupt, Serve}
+use Rattle.registers.specs.Boxes.{Setting, setting_of, Change, Clear, MoveTo, Turn, Start, Finish, Response, Stay, Reply, ReplyIfNone, Seeking, Interrupt, Serve}
 use Rattle.registers.specs.View.{wrong_work, wrong_write}
 
 -- numbers that refusal 1 does not name

@@ -1,6 +1,5 @@
 -- What a sent byte does, on the controller's numbers: every one of them is settled here, dead bytes too.
-use Rattle.std.specs.Prelude.{ℕ, ◌+◌, ◌-◌, ◌%◌, Bool, true, false, List, [], ◌∷◌, ◌++◌, length, replicate, nat_lt, slice_set}
-use Rattle.fields.specs.Refusals.{Result, refused, good}
+use Rattle.std.specs.Prelude.{ℕ, ◌+◌, ◌-◌, ◌%◌, Bool, true, false, List, [], ◌∷◌, ◌++◌, length, replicate, nat_lt, slice_set, Result, Ok, Err}
 use Rattle.fields.specs.declared.refusal.Refusal.{Refusal}
 use Rattle.registers.specs.declared.regs.Regs.{Regs}
 use Rattle.registers.specs.declared.regs.Drive.{Drive}
@@ -9,13 +8,11 @@ use Rattle.registers.specs.declared.regs.Goal.{Goal}
 use Rattle.registers.specs.declared.regs.Goal.TheVariants.{IntoSector, IntoTrack}
 use Rattle.registers.specs.declared.regs.Target.{Target}
 use Rattle.registers.specs.declared.regs.Report.{Report}
-use Rattle.registers.specs.declared.regs.Receipt.{Receipt}
-use Rattle.registers.specs.declared.regs.Receipt.TheVariants as receipt
-use Rattle.registers.specs.declared.regs.Written.{Written}
 use Rattle.registers.specs.declared.regs.Seek.{Seek}
 use Rattle.registers.specs.declared.regs.Seek.TheVariants.{Idle, Running, Done}
 use Rattle.registers.specs.Boxes.{fitted, Taking, Add, Hold, Change, Clear, MoveTo, Turn, Start, Finish, Response, Stay, Reply, ReplyIfNone}
 use Rattle.registers.specs.Boxes.{Seeking, Interrupt, Serve, Effect}
+use Rattle.registers.specs.declared.regs.Answered.{Answered}
 
 -- ---- The registers, with some of them anew
 
@@ -141,11 +138,11 @@ regs_with_motor x r = record {
 -- ---- Answers
 
 -- a byte that was taken, with what is told and the registers then; and one that was not, with the registers as they came
-abbrev pub accepted : Report → Regs → Written
-accepted x r = record { receipt = receipt.Good x; regs = r }
+abbrev pub accepted : {A : Type 0} → A → Regs → Answered A
+accepted x r = record { answer = Ok x; regs = r }
 
-abbrev pub declined : Refusal → Regs → Written
-declined why r = record { receipt = receipt.Refused why; regs = r }
+abbrev pub declined : {A : Type 0} → Refusal → Regs → Answered A
+declined why r = record { answer = Err why; regs = r }
 
 -- ---- The drive that a command names
 
@@ -227,14 +224,14 @@ regs_responded (Serve bytes reply) r = replied reply (regs_with_unread 0 (length
 
 -- ---- A whole effect: the answer with the registers; a refusal leaves them as they came
 
-unfoldable pub regs_of : Result Effect → Regs → Written
-regs_of (refused why) r = declined why r
-regs_of (good e) r = accepted e.report (regs_responded e.response (regs_all e.changes r))
+unfoldable pub regs_of : Result Effect Refusal → Regs → Answered Report
+regs_of (Err why) r = declined why r
+regs_of (Ok e) r = accepted e.report (regs_responded e.response (regs_all e.changes r))
 
 -- an answer, or where it refuses the refusal with the registers as they came
-abbrev pub kept_if : Receipt → Written → Regs → Written
-kept_if (receipt.Good x) a r = a
-kept_if (receipt.Refused why) a r = declined why r
+abbrev pub kept_if : Result Report Refusal → Answered Report → Regs → Answered Report
+kept_if (Ok x) a r = a
+kept_if (Err why) a r = declined why r
 
-abbrev pub kept : Regs → Written → Written
-kept r a = kept_if a.receipt a r
+abbrev pub kept : Regs → Answered Report → Answered Report
+kept r a = kept_if a.answer a r

@@ -1,8 +1,7 @@
 -- The controller's numbers and the lent buffers, seen as boxes; and the numbers that no controller has.
-use Rattle.std.specs.Prelude.{◌≡◌, ℕ, Bool, true, false, not, ◌&&◌, ◌||◌, List, take, nat_le, nat_lt, slice_index}
+use Rattle.std.specs.Prelude.{◌≡◌, ℕ, Bool, true, false, not, ◌&&◌, ◌||◌, List, take, nat_le, nat_lt, slice_index, Result, Ok}
 use Rattle.std.proofs.Math.Option.{Option, none, some}
 use Rattle.std.proofs.Math.Seq.{slice}
-use Rattle.fields.specs.Refusals.{Result}
 use Rattle.fields.specs.Model.{Disk}
 use Rattle.store.specs.Store.{room_of, disk_of, transfer_room}
 use Rattle.registers.specs.declared.regs.Regs.{Regs}
@@ -10,15 +9,12 @@ use Rattle.registers.specs.declared.regs.Pending.{Pending}
 use Rattle.registers.specs.declared.regs.Target.{Target}
 use Rattle.registers.specs.declared.regs.Goal.{Goal}
 use Rattle.registers.specs.declared.regs.Goal.TheVariants.{IntoSector, IntoTrack}
-use Rattle.registers.specs.Boxes.{Machine, Rust, DataSheet, Setting}
-use Rattle.registers.specs.Boxes.{Rooms, Slot, Empty, Holds, Drives, whole_of, Writing, Inside, Front, World}
+use Rattle.registers.specs.Boxes.{Machine, Rust, DataSheet, Setting, Rooms, Slot, Empty, Holds, Drives, whole_of, Writing, Inside, Front, World}
 use Rattle.registers.specs.Boxes.{setting_of, fitted, Named, named}
 use Rattle.codes.specs.Table.{command_of, bytes_for}
-use Rattle.store.specs.declared.answer.Done.TheVariants as done
-use Rattle.registers.specs.declared.regs.Told.{Told}
-use Rattle.registers.specs.declared.regs.Switched.{Switched}
-use Rattle.registers.specs.declared.regs.Byte.TheVariants as byte
 use Rattle.registers.specs.declared.regs.Drive.{Drive}
+use Rattle.fields.specs.declared.refusal.Refusal.{Refusal}
+use Rattle.registers.specs.declared.regs.Answered.{Answered}
 
 -- ---- The boxes
 
@@ -27,7 +23,7 @@ abbrev pub rooms_of : List ℕ → List ℕ → Rooms
 rooms_of b x = record { room = room_of b; transfer = transfer_room x }
 
 -- the disk that is in the drive, if the flag says that one is
-abbrev pub slot_if : Bool → Result Disk → Slot
+abbrev pub slot_if : Bool → Result Disk Refusal → Slot
 slot_if true disk = Holds disk
 slot_if false disk = Empty
 
@@ -90,12 +86,12 @@ world_of r h t b x = record { inside = inside_of r h (slot_of r t b); front = fr
 -- ---- Calls, seen
 
 -- one that answers a byte: the byte, and the boxes then
-abbrev pub Shows : List ℕ → List ℕ → List ℕ → List ℕ → Told → ℕ → World → Type 0
-Shows h t b x a n w = (a.answer ≡ byte.Of n) × (world_of a.regs h t b x ≡ w)
+abbrev pub Shows : List ℕ → List ℕ → List ℕ → List ℕ → Answered ℕ → ℕ → World → Type 0
+Shows h t b x a n w = (a.answer ≡ Ok n) × (world_of a.regs h t b x ≡ w)
 
 -- one that switches the motor or changes the disk: that it was done, and the boxes then
-abbrev pub Leaves : List ℕ → List ℕ → List ℕ → List ℕ → Switched → World → Type 0
-Leaves h t b x a w = (a.done ≡ done.Good) × (world_of a.regs h t b x ≡ w)
+abbrev pub Leaves : List ℕ → List ℕ → List ℕ → List ℕ → Answered (Unit {0}) → World → Type 0
+Leaves h t b x a w = (a.answer ≡ Ok tt) × (world_of a.regs h t b x ≡ w)
 
 -- ---- Refusal 1
 

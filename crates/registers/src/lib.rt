@@ -5,6 +5,6 @@ mod port;
 mod regs;
 
 pub use regs::{
-    Byte, Drive, Flag, Goal, Pending, Receipt, Regs, Report, Seek, Shape, Switched, Target, Told,
-    Written, fitted, goal_of, is_rust, wrong_work,
+    Answered, Drive, Goal, Pending, Regs, Report, Seek, Shape, Target, fitted, goal_of, is_rust,
+    wrong_work,
 };

@@ -1,15 +1,17 @@
 // Reads of the two ports, and the calls that ask or change one box.
-ghost use Rattle.std.specs.Prelude.{◌≡◌, ◌<◌, ◌≤◌, ◌==◌, nat_lt};
+ghost use Rattle.std.specs.Prelude.{◌≡◌, ◌<◌, ◌≤◌, ◌==◌, nat_lt, not, Ok};
+ghost use Rattle.fields.specs.Refusals.{need};
+ghost use Rattle.fields.specs.declared.refusal.Refusal.TheVariants.{BadController};
 ghost use Rattle.store.specs.Store.{transfer_room};
 ghost use Rattle.registers.specs.Ports.{phase, seek_bit, settled, poll_by};
-ghost use Rattle.registers.specs.View.{impossible_in};
+ghost use Rattle.registers.specs.View.{impossible, impossible_in};
 ghost use Rattle.registers.specs.Settle.{sought};
 ghost use Rattle.registers.specs.Calls.{status_of, regs_polled, after_status_of, status_read, data_read, motor_set, disk_set, motor_of, current_track, disk_in, setting_in};
 
-use crate::regs::{Byte, Drive, Flag, Regs, Seek, Switched, Told};
+use crate::regs::{Answered, Drive, Regs, Seek};
 use codes::MainReg;
 use fields::Refusal;
-use store::{Done, transfer_room};
+use store::transfer_room;
 
 impl Seek {
     fn bit(self) -> u8
@@ -17,8 +19,7 @@ impl Seek {
     {
         match self {
             Seek::Idle => 0,
-            Seek::Running => MainReg::FDD0_BUSY,
-            Seek::Done => MainReg::FDD0_BUSY,
+            Seek::Running | Seek::Done => MainReg::FDD0_BUSY,
         }
     }
 
@@ -26,22 +27,29 @@ impl Seek {
         ensures { result ≡ settled self }
     {
         match self {
-            Seek::Idle => Seek::Idle,
+            Seek::Idle | Seek::Done => Seek::Idle,
             Seek::Running => Seek::Running,
-            Seek::Done => Seek::Idle,
         }
     }
 }
 
 impl Regs {
     // Numbers that no controller has, with so much lent for its data.
+    #[tactic(auto, unfolding(crate::specs::View::impossible_in))]
     pub fn impossible_in(self, transfer: &[u8]) -> bool
         ensures { result ≡ impossible_in transfer.now self }
     {
+        self.impossible() || transfer_room(transfer) < self.until as usize
+    }
+
+    // Refuses numbers that no controller has.
+    fn checked(self) -> Result<(), Refusal>
+        ensures { result ≡ need (not (impossible self)) BadController (Ok tt) }
+    {
         if self.impossible() {
-            return true;
+            return Err(Refusal::BadController);
         }
-        transfer_room(transfer) < self.until as usize
+        Ok(())
     }
 
     // What the status shows of the phase.
@@ -64,150 +72,123 @@ impl Regs {
     }
 
     // Unread data that are not taken: the lost count rises, and at three a byte is dropped.
-    fn polled(mut self) -> Self
+    #[tactic(auto, unfolding(crate::specs::Calls::regs_polled))]
+    fn polled(self) -> Self
         requires { self.lost ≤ 2 }
         ensures { result ≡ regs_polled (poll_by self.write.on (nat_lt self.from self.until) (self.lost == 2)) self }
     {
-        if self.write.on {
-            return self;
-        }
-        if self.until <= self.from {
+        if self.write.on || self.until <= self.from {
             return self;
         }
         if self.lost == 2 {
-            self.from = self.from + 1;
-            self.lost = 0;
-            return self;
+            return Regs {
+                from: self.from + 1,
+                lost: 0,
+                ..self
+            };
         }
-        self.lost = self.lost + 1;
-        self
+        Regs {
+            lost: self.lost + 1,
+            ..self
+        }
     }
 
-    pub fn read_status(self) -> Told
+    #[tactic(auto, unfolding(crate::specs::Calls::status_read, crate::specs::Calls::status_of, crate::specs::Calls::after_status_of))]
+    pub fn read_status(self) -> Answered<u8>
         ensures { result ≡ status_read self }
     {
         if self.impossible() {
-            return Told {
-                answer: Byte::Refused(Refusal::BadController),
-                regs: self,
-            };
+            return self.refused(Refusal::BadController);
         }
         let d = self.drive;
-        let seek = d.seek;
-        let shown = self.phase() + seek.bit();
-        Told {
-            answer: Byte::Of(shown),
-            regs: self.moved(d.cylinder, seek.settled()).polled(),
-        }
+        let shown = self.phase() + d.seek.bit();
+        self.moved(d.cylinder, d.seek.settled())
+            .polled()
+            .answered(shown)
     }
 
-    pub fn read_cmd(mut self, transfer: &[u8]) -> Told
+    #[tactic(auto, unfolding(crate::specs::Calls::data_read, crate::specs::Calls::byte_from, crate::specs::Calls::regs_read))]
+    pub fn read_cmd(self, transfer: &[u8]) -> Answered<u8>
         ensures { result ≡ data_read self transfer.now }
     {
         if self.impossible_in(transfer) {
-            return Told {
-                answer: Byte::Refused(Refusal::BadController),
-                regs: self,
-            };
+            return self.refused(Refusal::BadController);
         }
-        self.lost = 0;
-        if self.from < self.until {
-            let b = transfer[self.from as usize];
-            self.from = self.from + 1;
-            return Told {
-                answer: Byte::Of(b),
-                regs: self,
-            };
+        let r = Regs { lost: 0, ..self };
+        if r.from < r.until {
+            let b = transfer[r.from as usize];
+            return Regs {
+                from: r.from + 1,
+                ..r
+            }
+            .answered(b);
         }
-        if self.place < self.fill {
-            let reply = self.reply;
-            let b = reply[self.place as usize];
-            self.place = self.place + 1;
-            return Told {
-                answer: Byte::Of(b),
-                regs: self,
-            };
+        if r.place < r.fill {
+            let b = r.reply[r.place as usize];
+            return Regs {
+                place: r.place + 1,
+                ..r
+            }
+            .answered(b);
         }
-        Told {
-            answer: Byte::Of(0),
-            regs: self,
-        }
+        r.answered(0)
     }
 
-    pub fn set_motor(mut self, motor: bool) -> Switched
+    #[tactic(auto, unfolding(crate::specs::Calls::motor_set))]
+    pub fn set_motor(self, motor: bool) -> Answered<()>
         ensures { result ≡ motor_set motor self }
     {
         if self.impossible() {
-            return Switched {
-                done: Done::Refused(Refusal::BadController),
-                regs: self,
-            };
+            return self.refused(Refusal::BadController);
         }
-        self.motor = motor;
-        Switched {
-            done: Done::Good,
-            regs: self,
-        }
+        Regs { motor, ..self }.answered(())
     }
 
-    pub fn motor(self) -> Flag
+    #[tactic(auto, unfolding(crate::specs::Calls::motor_of))]
+    pub fn motor(self) -> Result<bool, Refusal>
         ensures { result ≡ motor_of self }
     {
-        if self.impossible() {
-            return Flag::Refused(Refusal::BadController);
-        }
-        Flag::Of(self.motor)
+        self.checked()?;
+        Ok(self.motor)
     }
 
-    pub fn current_track(self) -> Byte
+    #[tactic(auto, unfolding(crate::specs::Calls::current_track))]
+    pub fn current_track(self) -> Result<u8, Refusal>
         ensures { result ≡ current_track self }
     {
-        if self.impossible() {
-            return Byte::Refused(Refusal::BadController);
-        }
-        Byte::Of(self.drive.cylinder)
+        self.checked()?;
+        Ok(self.drive.cylinder)
     }
 
-    pub fn disk(self) -> Flag
+    #[tactic(auto, unfolding(crate::specs::Calls::disk_in))]
+    pub fn disk(self) -> Result<bool, Refusal>
         ensures { result ≡ disk_in self }
     {
-        if self.impossible() {
-            return Flag::Refused(Refusal::BadController);
-        }
-        Flag::Of(self.drive.disk)
+        self.checked()?;
+        Ok(self.drive.disk)
     }
 
     // The number of what the controller was made with.
-    pub fn setting(self) -> Byte
+    #[tactic(auto, unfolding(crate::specs::Calls::setting_in))]
+    pub fn setting(self) -> Result<u8, Refusal>
         ensures { result ≡ setting_in self }
     {
-        if self.impossible() {
-            return Byte::Refused(Refusal::BadController);
-        }
-        Byte::Of(self.setting)
+        self.checked()?;
+        Ok(self.setting)
     }
 
     // Another disk, or none: all else is carried over.
-    pub fn set_disk(mut self, present: bool) -> Switched
+    #[tactic(auto, unfolding(crate::specs::Calls::disk_set))]
+    pub fn set_disk(self, present: bool) -> Answered<()>
         ensures { result ≡ disk_set present self }
     {
         if self.impossible() {
-            return Switched {
-                done: Done::Refused(Refusal::BadController),
-                regs: self,
-            };
+            return self.refused(Refusal::BadController);
         }
-        let d = self.drive;
-        let seek = d.seek;
         let drive = Drive {
-            cylinder: d.cylinder,
-            seek,
             disk: present,
+            ..self.drive
         };
-        self.drive = drive;
-        Switched {
-            done: Done::Good,
-            regs: self,
-        }
+        Regs { drive, ..self }.answered(())
     }
 }

@@ -1,25 +1,26 @@
 // The controller's numbers, without the bytes of an unfinished write, and the changes that they go through.
-ghost use Rattle.std.specs.Prelude.{◌≡◌, ◌<◌, ◌≤◌, [], ◌∷◌, nat_le, slice_index};
+ghost use Rattle.std.specs.Prelude.{◌≡◌, ◌<◌, ◌≤◌, nat_le, slice_index, take};
 ghost use Rattle.fields.specs.Capacities.{most_held};
 ghost use Rattle.codes.specs.Table.{command_of, bytes_for};
 ghost use Rattle.registers.specs.Boxes.{setting_of, whole_of, silent, serves, fitted, seven, Add, Hold, Clear, Turn, Start, Finish, MoveTo};
 ghost use Rattle.registers.specs.View.{goal_if, goal_of, is_rust, unknown_to, impossible, wrong_work, wrong_write};
-ghost use Rattle.registers.specs.Settle.{accepted, declined, drive_named, replied, regs_with_drive, no_pending, track_in, target_in, pending_with, regs_taken, regs_changed, kept};
+ghost use Rattle.registers.specs.Settle.{accepted, declined, drive_named, replied, regs_with_drive, no_pending, track_in, target_in, regs_taken, regs_changed, kept};
 
 use codes::{bytes_for, command_of, drive_of};
 use fields::{Refusal, SectorId};
-use store::{Done, Match};
+use store::Match;
 
 // The state of the last seek.
-#[derive(Clone, Copy)]
+#[derive(Clone, Copy, PartialEq, Eq)]
 pub enum Seek {
     Idle,
     Running,
     Done,
 }
 
-// A drive: the cylinder that its head is over, the state of its last seek, and whether a disk is in it.
-#[derive(Clone, Copy)]
+// A drive: the cylinder that its head is over, the state of its last seek, and whether a disk is in it: a flag, since the disk is lent
+// apart.
+#[derive(Clone, Copy, PartialEq, Eq)]
 pub struct Drive {
     pub cylinder: u8,
     pub seek: Seek,
@@ -27,7 +28,7 @@ pub struct Drive {
 }
 
 // A track that a Format asks for: its n, how many sectors, gap and filler.
-#[derive(Clone, Copy)]
+#[derive(Clone, Copy, PartialEq, Eq)]
 pub struct Shape {
     pub size: u8,
     pub sectors: u8,
@@ -36,14 +37,14 @@ pub struct Shape {
 }
 
 // What is written: the data of the sector with an ID, or, for a Format, the IDs of a track of a shape.
-#[derive(Clone, Copy)]
+#[derive(Clone, Copy, PartialEq, Eq)]
 pub enum Goal {
     IntoSector(SectorId),
     IntoTrack(Shape),
 }
 
 // Four numbers: c, h, r, n of an ID, or size, sectors, gap, filler of a shape.
-#[derive(Clone, Copy)]
+#[derive(Clone, Copy, PartialEq, Eq)]
 pub struct Target {
     pub one: u8,
     pub two: u8,
@@ -51,8 +52,9 @@ pub struct Target {
     pub four: u8,
 }
 
-// A write in progress: the command's second byte, what is written (of a track or not, and which), and how many bytes are held.
-#[derive(Clone, Copy)]
+// A write in progress: the command's second byte, what is written (of a track or not, and which), and how many bytes are held. Flags, four numbers and a
+// count, and no `Option` or `Goal`: nothing that the controller keeps changes its shape.
+#[derive(Clone, Copy, PartialEq, Eq)]
 pub struct Pending {
     pub on: bool,
     pub c1: u8,
@@ -63,7 +65,8 @@ pub struct Pending {
 
 // In the Rust: `cmd` is `command` and `count`; `reply` is `reply`, `place` and `fill`; `data` is the transfer buffer from `from` up to `until`;
 // `setting` is what the controller was made with, of which bit 0 is the machine. `lost_read` is `lost`; `read_id_idx` is `index`; `data_in` is `write`; `int_seek_completed` is the drive's `seek`.
-#[derive(Clone, Copy)]
+// Places over fixed buffers, and a setting by its number: nothing here changes its shape.
+#[derive(Clone, Copy, PartialEq, Eq)]
 pub struct Regs {
     pub command: [u8; 9],
     pub count: u8,
@@ -80,51 +83,16 @@ pub struct Regs {
     pub setting: u8,
 }
 
-// A byte, or why there is none.
-#[derive(Clone, Copy)]
-pub enum Byte {
-    Of(u8),
-    Refused(Refusal),
-}
-
-// A flag, or why there is none.
-#[derive(Clone, Copy)]
-pub enum Flag {
-    Of(bool),
-    Refused(Refusal),
-}
-
-// What a port read answers, with the registers then.
-#[derive(Clone, Copy)]
-pub struct Told {
-    pub answer: Byte,
-    pub regs: Regs,
-}
-
-// What the host is told beside that a byte was taken: which sector a Read, a Write Data or the end of a write has found.
-#[derive(Clone, Copy)]
+// What the host is told beside that a byte was taken: which sector a Read, a Write Data or the end of a write has found, or the match that is none.
+#[derive(Clone, Copy, PartialEq, Eq)]
 pub struct Report {
     pub sector: Match,
 }
 
-// What the host gets for a byte that it sent: it was taken, with what there is to tell, or why it was not.
+// What a call answers, or why it was refused, with the registers then.
 #[derive(Clone, Copy)]
-pub enum Receipt {
-    Good(Report),
-    Refused(Refusal),
-}
-
-// What a byte sent answers, with the registers then.
-#[derive(Clone, Copy)]
-pub struct Written {
-    pub receipt: Receipt,
-    pub regs: Regs,
-}
-
-// What a change of motor or disk answers, with the registers then.
-#[derive(Clone, Copy)]
-pub struct Switched {
-    pub done: Done,
+pub struct Answered<T> {
+    pub answer: Result<T, Refusal>,
     pub regs: Regs,
 }
 
@@ -140,35 +108,28 @@ pub fn goal_of(track: bool, t: Target) -> Goal
     ensures { result ≡ goal_if track t }
 {
     if track {
-        let shape = Shape {
+        return Goal::IntoTrack(Shape {
             size: t.one,
             sectors: t.two,
             gap: t.three,
             filler: t.four,
-        };
-        return Goal::IntoTrack(shape);
+        });
     }
-    let id = SectorId {
+    Goal::IntoSector(SectorId {
         c: t.one,
         h: t.two,
         r: t.three,
         n: t.four,
-    };
-    Goal::IntoSector(id)
+    })
 }
 
 // Numbers that no write in progress has, with a setting: as many bytes as it takes, or more, a drive that is not fitted, or a Format in the Rust
 // machine.
+#[tactic(auto, unfolding(crate::specs::View::wrong_work))]
 pub fn wrong_work(setting: u8, c1: u8, goal: Goal, taken: usize) -> bool
     ensures { result ≡ wrong_work (setting_of setting) c1 goal taken }
 {
-    if goal.whole() <= taken {
-        return true;
-    }
-    if !fitted(c1) {
-        return true;
-    }
-    goal.unknown_to(setting)
+    goal.whole() <= taken || !fitted(c1) || goal.unknown_to(setting)
 }
 
 // Whether a command names a drive that is fitted: drive 0.
@@ -193,12 +154,10 @@ impl Goal {
     fn is_track(self) -> bool
         ensures { result ≡ track_in self }
     {
-        match self {
-            Goal::IntoSector(_) => false,
-            Goal::IntoTrack(_) => true,
-        }
+        matches!(self, Goal::IntoTrack(_))
     }
 
+    // A method, as is `goal_of`, which takes the flag beside: of a `From` the promise would stand in a ghost member, where these have a clause.
     fn target(self) -> Target
         ensures { result ≡ target_in self }
     {
@@ -222,10 +181,7 @@ impl Goal {
     fn unknown_to(self, setting: u8) -> bool
         ensures { result ≡ unknown_to (setting_of setting).machine self }
     {
-        match self {
-            Goal::IntoSector(_) => false,
-            Goal::IntoTrack(_) => is_rust(setting),
-        }
+        self.is_track() && is_rust(setting)
     }
 }
 
@@ -234,17 +190,16 @@ impl Pending {
     pub fn none() -> Pending
         ensures { result ≡ no_pending }
     {
-        let target = Target {
-            one: 0,
-            two: 0,
-            three: 0,
-            four: 0,
-        };
         Pending {
             on: false,
             c1: 0,
             track: false,
-            target,
+            target: Target {
+                one: 0,
+                two: 0,
+                three: 0,
+                four: 0,
+            },
             taken: 0,
         }
     }
@@ -255,20 +210,6 @@ impl Pending {
     {
         goal_of(self.track, self.target)
     }
-
-    // In progress or not, with so many bytes held.
-    fn with(self, on: bool, taken: u16) -> Self
-        ensures { result ≡ pending_with on taken self }
-    {
-        let target = self.target;
-        Pending {
-            on,
-            c1: self.c1,
-            track: self.track,
-            target,
-            taken,
-        }
-    }
 }
 
 impl Regs {
@@ -276,140 +217,129 @@ impl Regs {
     fn oversent(self) -> bool
         ensures { result ≡ nat_le (bytes_for (command_of (slice_index self.command 0))) self.count }
     {
-        if self.count == 0 {
-            return false;
-        }
-        let command = self.command;
-        bytes_for(command_of(command[0])) <= self.count
+        self.count != 0 && bytes_for(command_of(self.command[0])) <= self.count
     }
 
     // Numbers that no write in progress has.
     fn wrong_write(self) -> bool
         ensures { result ≡ wrong_write (setting_of self.setting) self.write }
     {
-        if !self.write.on {
-            return false;
-        }
-        let goal = goal_of(self.write.track, self.write.target);
-        wrong_work(self.setting, self.write.c1, goal, self.write.taken as usize)
+        let p = self.write;
+        p.on && wrong_work(self.setting, p.c1, p.goal(), p.taken as usize)
     }
 
     // Numbers that no controller has.
+    #[tactic(auto, unfolding(crate::specs::View::impossible))]
     pub fn impossible(self) -> bool
         ensures { result ≡ impossible self }
     {
-        if self.fill < self.place {
+        if self.fill < self.place || self.until < self.from || 7 < self.fill {
             return true;
         }
-        if self.until < self.from {
-            return true;
-        }
-        if 7 < self.fill {
-            return true;
-        }
-        if self.oversent() {
-            return true;
-        }
-        if 2 < self.lost {
-            return true;
-        }
-        self.wrong_write()
+        self.oversent() || 2 < self.lost || self.wrong_write()
     }
 
-    // The byte was taken, and this sector was found.
-    pub fn found(self, sector: Match) -> Written
-        ensures { result ≡ accepted (serves sector) self }
+    // An answer, with these registers.
+    pub fn answered<T>(self, answer: T) -> Answered<T>
+        ensures { result ≡ accepted answer self }
     {
-        let report = Report { sector };
-        Written {
-            receipt: Receipt::Good(report),
+        Answered {
+            answer: Ok(answer),
             regs: self,
         }
     }
 
+    // The byte was taken, and this sector was found.
+    pub fn found(self, sector: Match) -> Answered<Report>
+        ensures { result ≡ accepted (serves sector) self }
+    {
+        self.answered(Report { sector })
+    }
+
     // The byte was taken, and there is nothing to tell.
-    pub fn done(self) -> Written
+    pub fn done(self) -> Answered<Report>
         ensures { result ≡ accepted silent self }
     {
         self.found(Match::none())
     }
 
-    // The byte was not taken.
-    pub fn refused(self, why: Refusal) -> Written
+    // A refusal, with these registers.
+    pub fn refused<T>(self, why: Refusal) -> Answered<T>
         ensures { result ≡ declined why self }
     {
-        Written {
-            receipt: Receipt::Refused(why),
+        Answered {
+            answer: Err(why),
             regs: self,
         }
     }
 
     // The answer, or where it refuses the refusal with these registers.
-    pub fn kept(self, a: Written) -> Written
+    pub fn kept(self, a: Answered<Report>) -> Answered<Report>
         ensures { result ≡ kept self a }
     {
-        let receipt = a.receipt;
-        match receipt {
-            Receipt::Good(_) => a,
-            Receipt::Refused(why) => self.refused(why),
+        match a.answer {
+            Ok(_) => a,
+            Err(why) => self.refused(why),
         }
     }
 
     // The drive that a command names. One that is not fitted has no disk in, and shows the cylinder of drive 0.
+    #[tactic(auto, unfolding(crate::specs::Settle::drive_named))]
     pub fn named(self, c1: u8) -> Drive
         ensures { result ≡ drive_named c1 self }
     {
-        let d = self.drive;
         if fitted(c1) {
-            return d;
+            return self.drive;
         }
-        let seek = d.seek;
         Drive {
-            cylinder: d.cylinder,
-            seek,
             disk: false,
+            ..self.drive
         }
     }
 
     // One more byte of a command.
-    pub fn added(mut self, b: u8) -> Self
+    pub fn added(self, b: u8) -> Self
         requires { self.count < 9 }
         ensures { result ≡ regs_taken (Add b) self }
     {
-        let n = self.count as usize;
         let mut command = self.command;
-        command[n] = b;
-        self.command = command;
-        self.count = self.count + 1;
-        self
+        command[self.count as usize] = b;
+        Regs {
+            command,
+            count: self.count + 1,
+            ..self
+        }
     }
 
     // One more byte of a write is held.
-    pub fn holds(mut self, b: u8) -> Self
+    pub fn holds(self, b: u8) -> Self
         requires { self.write.taken < most_held }
         ensures { result ≡ regs_taken (Hold b) self }
     {
-        let p = self.write;
-        self.write = p.with(p.on, p.taken + 1);
-        self
+        let write = Pending {
+            taken: self.write.taken + 1,
+            ..self.write
+        };
+        Regs { write, ..self }
     }
 
-    pub fn cleared(mut self) -> Self
+    pub fn cleared(self) -> Self
         ensures { result ≡ regs_changed Clear self }
     {
-        self.count = 0;
-        self
+        Regs { count: 0, ..self }
     }
 
-    pub fn turned(mut self) -> Self
+    pub fn turned(self) -> Self
         ensures { result ≡ regs_changed Turn self }
     {
-        self.index = std::num::wrapping_add_u16(self.index, 1);
-        self
+        Regs {
+            index: self.index.wrapping_add(1),
+            ..self
+        }
     }
 
     // A write starts, be it of a sector or of a Format's IDs.
-    pub fn started(mut self, c1: u8, goal: Goal) -> Self
+    pub fn started(self, c1: u8, goal: Goal) -> Self
         ensures { result ≡ regs_changed (Start c1 goal) self }
     {
         let write = Pending {
@@ -419,65 +349,51 @@ impl Regs {
             target: goal.target(),
             taken: 0,
         };
-        self.write = write;
-        self
+        Regs { write, ..self }
     }
 
-    pub fn finished(mut self) -> Self
+    pub fn finished(self) -> Self
         ensures { result ≡ regs_changed Finish self }
     {
-        let p = self.write;
-        self.write = p.with(false, 0);
-        self
+        let write = Pending {
+            on: false,
+            taken: 0,
+            ..self.write
+        };
+        Regs { write, ..self }
     }
 
     // The head over a cylinder, and a seek state.
-    pub fn moved(mut self, cylinder: u8, seek: Seek) -> Self
+    pub fn moved(self, cylinder: u8, seek: Seek) -> Self
         ensures { result ≡ regs_with_drive (record { cylinder = cylinder; seek = seek; disk = self.drive.disk }) self }
     {
         let drive = Drive {
             cylinder,
             seek,
-            disk: self.drive.disk,
+            ..self.drive
         };
-        self.drive = drive;
-        self
+        Regs { drive, ..self }
     }
 
-    // A reply of no bytes, of one, of two, and of seven: st0, st1, st2 and four more.
-    pub fn reply0(mut self) -> Self
-        ensures { result ≡ replied [] self }
+    // A reply: of no more than seven bytes, or of the first seven.
+    pub fn replied(self, bytes: &[u8]) -> Self
+        ensures { result ≡ replied (take 7 bytes.now) self }
     {
-        self.reply = [0, 0, 0, 0, 0, 0, 0];
-        self.place = 0;
-        self.fill = 0;
-        self
+        let n = bytes.len().min(7);
+        let mut reply = [0; 7];
+        reply[..n].copy_from_slice(&bytes[..n]);
+        Regs {
+            reply,
+            place: 0,
+            fill: n as u8,
+            ..self
+        }
     }
 
-    pub fn reply1(mut self, a: u8) -> Self
-        ensures { result ≡ replied (a ∷ []) self }
-    {
-        self.reply = [a, 0, 0, 0, 0, 0, 0];
-        self.place = 0;
-        self.fill = 1;
-        self
-    }
-
-    pub fn reply2(mut self, a: u8, b: u8) -> Self
-        ensures { result ≡ replied (a ∷ b ∷ []) self }
-    {
-        self.reply = [a, b, 0, 0, 0, 0, 0];
-        self.place = 0;
-        self.fill = 2;
-        self
-    }
-
-    pub fn reply7(mut self, st0: u8, st1: u8, st2: u8, id: SectorId) -> Self
+    // A reply of seven: st0, st1, st2 and four more.
+    pub fn reply7(self, st0: u8, st1: u8, st2: u8, id: SectorId) -> Self
         ensures { result ≡ replied (seven st0 st1 st2 id) self }
     {
-        self.reply = [st0, st1, st2, id.c, id.h, id.r, id.n];
-        self.place = 0;
-        self.fill = 7;
-        self
+        self.replied(&[st0, st1, st2, id.c, id.h, id.r, id.n])
     }
 }

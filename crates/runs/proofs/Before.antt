@@ -2,17 +2,18 @@
 -- tell nothing: any calls on it leave the same boxes and disk, and answer the same but for what is told.
 use mathlib.Core.Path.{◌≡◌, refl, sym, ap, ◌∙◌}
 use mathlib.Core.List.{List, map}
-use Rattle.fields.specs.Refusals.{Result, refused, good, after}
+use Rattle.fields.specs.Refusals.{after}
 use Rattle.registers.specs.Boxes.{World, Sent, silent}
 use Rattle.sending.specs.Machine.{sent, done, write_port, report_of}
-use Rattle.saves.specs.Events.{Question, motor_on?, which_track?, disk_in?, Event, poll, read, send, ask, switch, swap, widen}
-use Rattle.saves.specs.Events.{Answer, Next, Run, run}
+use Rattle.saves.specs.Events.{Question, motor_on?, which_track?, disk_in?, Event, poll, read, send, ask, switch, swap, widen, Answer, Next, Run, run}
 use Rattle.saves.specs.Stages.{Stage, sent_on, answer_to, acted}
 use Rattle.saves.proofs.Feeding.{byte_on}
 use Rattle.runs.specs.Before.{untold, acted_before, answer_before}
 use Rattle.runs.specs.Hosts.{Host, stage_of, called, Sound}
 use Rattle.runs.proofs.Follows.{follows}
 use Rattle.runs.proofs.Any.{calls-run}
+use Rattle.std.specs.Prelude.{Result, Ok, Err}
+use Rattle.fields.specs.declared.refusal.Refusal.{Refusal}
 
 -- ---- one call
 
@@ -20,10 +21,10 @@ use Rattle.runs.proofs.Any.{calls-run}
 abbrev Before : Next Answer Stage → Next Answer Stage
 Before x = record { answer = answer_before x.answer; then = x.then }
 
-byte-before : (g : Stage) (x : Result Sent) → sent_on g silent (after (untold x) (λ y. good (done g.world y))) ≡ Before (byte_on g x)
+byte-before : (g : Stage) (x : Result Sent Refusal) → sent_on g silent (after (untold x) (λ y. Ok (done g.world y))) ≡ Before (byte_on g x)
 unfolding answer_before done
-byte-before g (refused why) = refl
-byte-before g (good x) = refl
+byte-before g (Err why) = refl
+byte-before g (Ok x) = refl
 
 asked-before : (q : Question) (w : World) → answer_before (answer_to q w) ≡ answer_to q w
 unfolding answer_before answer_to

@@ -12,13 +12,12 @@ use borrow.Author.Tests.{leb-true, eqb-false, not-true}
 use Rattle.buffer.specs.Over.{over}
 use Rattle.buffer.proofs.Overs.{over-length}
 use Rattle.fields.specs.Capacities.{most_tracks, most_sectors, most_data, most_transfer}
-use Rattle.fields.specs.Refusals.{Result, refused, good, need, after}
+use Rattle.fields.specs.Refusals.{need, after}
 use Rattle.fields.specs.Model.{Sector, Disk, sector_count, byte_count}
 use Rattle.fields.specs.declared.id.SectorId.{SectorId}
 use Rattle.fields.specs.declared.refusal.Refusal.{Refusal}
 use Rattle.fields.specs.declared.refusal.Refusal.TheVariants.{BadController, BadStore, ShortImage, NotAnImage, NotATrack}
-use Rattle.fields.specs.declared.refusal.Refusal.TheVariants.{TooManyTracks, TooManySectors, NoRoom, NoTransferRoom, LongInput}
-use Rattle.fields.specs.declared.refusal.Refusal.TheVariants.{BadSheet, NoImage, ShortBuffer}
+use Rattle.fields.specs.declared.refusal.Refusal.TheVariants.{TooManyTracks, TooManySectors, NoRoom, NoTransferRoom, LongInput, BadSheet, NoImage, ShortBuffer}
 use Rattle.fields.proofs.Sizes.{size-pos}
 use Rattle.fields.proofs.Tests.{never}
 use Rattle.store.specs.Find.{Found, nothing, found}
@@ -44,6 +43,7 @@ use Rattle.commands.specs.Commands.{byte, id_of, when_ready, tells, does, puts, 
 use Rattle.commands.specs.Lent.{data_with, transfer_with}
 use Rattle.registers.specs.Possible.{AllFair, Short}
 use Rattle.saves.specs.Stages.{Unbroken}
+use Rattle.std.specs.Prelude.{Result, Ok, Err}
 
 -- ---- refusals
 
@@ -66,8 +66,8 @@ MayRefuse Bad ShortBuffer = ⊥
 -- what is in a drive: a store that is refused is refused for itself
 abbrev pub Clean : Type 0 → Slot → Type 0
 Clean Bad Empty = Unit {0}
-Clean Bad (Holds (refused why)) = MayRefuse Bad why
-Clean Bad (Holds (good d)) = Unit {0}
+Clean Bad (Holds (Err why)) = MayRefuse Bad why
+Clean Bad (Holds (Ok d)) = Unit {0}
 
 -- what is in the drive is a store that breaks the layout
 abbrev pub Breaks : Slot → Type 0
@@ -77,7 +77,7 @@ pub store-clean : (f : Bool) (t b : List ℕ) → let slot : Slot = slot_if f (d
 store-clean false t b = tt
 store-clean true t b = go (store.well_laid t (room_of b)) refl
   where
-    Fine : Result Disk → Type 0
+    Fine : Result Disk Refusal → Type 0
     Fine y = Clean (Breaks (Holds y)) (Holds y)
 
     go : (v : Bool) → store.well_laid t (room_of b) ≡ v → Fine (disk_of t b)
@@ -116,14 +116,14 @@ named-clean Bad c1 d c = go (fitted c1)
     go false = tt
 
 -- a track that is laid, whatever is changed inside
-module _ (Bad : Type 0) (s : Rooms) (P : Result Effect → Type 0) (xs : List Change) where
-  laid_as : (c1 c : ℕ) (z : Shape) (ids : List SectorId) (y : Disk) → ((why : Refusal) → MayRefuse Bad why → P (refused why))
+module _ (Bad : Type 0) (s : Rooms) (P : Result Effect Refusal → Type 0) (xs : List Change) where
+  laid_as : (c1 c : ℕ) (z : Shape) (ids : List SectorId) (y : Disk) → ((why : Refusal) → MayRefuse Bad why → P (Err why))
       → ((new : Disk) → byte_count new ≤ s.room → P (puts silent xs new (format_reply c1 z.size))) → P (lays_track s xs c1 c z ids y)
   unfolding lays_track within
   laid_as c1 c z ids y denies lays = fits (set_track (head_of c1) c (track_as c1 c z ids) y)
     where
       all : (p q v : Bool) (new : Disk) → leb (byte_count new) s.room ≡ v
-          → P (after (need p TooManyTracks (need q TooManySectors (need v NoRoom (good new)))) (λ n. puts silent xs n (format_reply c1 z.size)))
+          → P (after (need p TooManyTracks (need q TooManySectors (need v NoRoom (Ok new)))) (λ n. puts silent xs n (format_reply c1 z.size)))
       all false q v new e = denies TooManyTracks tt
       all true false v new e = denies TooManySectors tt
       all true true false new e = denies NoRoom tt
@@ -133,15 +133,15 @@ module _ (Bad : Type 0) (s : Rooms) (P : Result Effect → Type 0) (xs : List Ch
       fits new = all (leb (length new) most_tracks) (leb (sector_count new) most_sectors) (leb (byte_count new) s.room) new refl
 
 module _ (σ : Setting) (Bad : Type 0) (s : Rooms) where
-  abbrev pub Proper : Result Effect → Type 0
-  Proper (refused why) = MayRefuse Bad why
-  Proper (good e) = AllFair σ e.changes × (Short s.transfer e.response × Fits s e.put)
+  abbrev pub Proper : Result Effect Refusal → Type 0
+  Proper (Err why) = MayRefuse Bad why
+  Proper (Ok e) = AllFair σ e.changes × (Short s.transfer e.response × Fits s e.put)
 
   -- a command that looks at a drive finds none, a store that is refused for itself, or a disk
-  looks : (slot : Slot) (e : Result Effect) (f : Disk → Result Effect) → Clean Bad slot → Proper e → ((y : Disk) → slot ≡ Holds (good y) → Proper (f y)) → Proper (when_ready slot e f)
+  looks : (slot : Slot) (e : Result Effect Refusal) (f : Disk → Result Effect Refusal) → Clean Bad slot → Proper e → ((y : Disk) → slot ≡ Holds (Ok y) → Proper (f y)) → Proper (when_ready slot e f)
   looks Empty e f c p q = p
-  looks (Holds (refused why)) e f c p q = c
-  looks (Holds (good y)) e f c p q = q y refl
+  looks (Holds (Err why)) e f c p q = c
+  looks (Holds (Ok y)) e f c p q = q y refl
 
   seven-short : (a b c : ℕ) (id : SectorId) → length (seven a b c id) ≤ 7
   seven-short a b c id = omega arith
@@ -230,16 +230,16 @@ module _ (σ : Setting) (Bad : Type 0) (s : Rooms) where
 
 module _ (Bad : Type 0) (s : Rooms) where
   -- a write that ends is done with, and does no more inside
-  abbrev pub Ends : Result Effect → Type 0
-  Ends (refused why) = MayRefuse Bad why
-  Ends (good e) = (e.changes ≡ Finish ∷ []) × (Short s.transfer e.response × Fits s e.put)
+  abbrev pub Ends : Result Effect Refusal → Type 0
+  Ends (Err why) = MayRefuse Bad why
+  Ends (Ok e) = (e.changes ≡ Finish ∷ []) × (Short s.transfer e.response × Fits s e.put)
 
   -- one that looks at its drive
-  ends_at : (slot : Slot) (reply : List ℕ) (f : Disk → Result Effect) → Clean Bad slot → length reply ≤ 7 → ((y : Disk) → Ends (f y))
+  ends_at : (slot : Slot) (reply : List ℕ) (f : Disk → Result Effect Refusal) → Clean Bad slot → length reply ≤ 7 → ((y : Disk) → Ends (f y))
       → Ends (when_ready slot (does (Finish ∷ []) (Reply reply)) f)
   ends_at Empty reply f c h q = (refl, (h, tt))
-  ends_at (Holds (refused why)) reply f c h q = c
-  ends_at (Holds (good y)) reply f c h q = q y
+  ends_at (Holds (Err why)) reply f c h q = c
+  ends_at (Holds (Ok y)) reply f c h q = q y
 
   sector-ends : (c1 : ℕ) (id : SectorId) (held : List ℕ) (d : Named) → Clean Bad d.slot → Ends (written_sector s c1 id held d)
   unfolding written_sector save_at write_reply

@@ -3,7 +3,6 @@ use mathlib.Core.Path.{◌≡◌, refl, sym, ap, subst, ◌∙◌}
 use Prim.Native.Nat.{ℕ, ◌+◌, ◌≤◌}
 use mathlib.Core.List.{List, [], ◌∷◌, ◌++◌}
 use lib.ListN.{length, take}
-use Rattle.fields.specs.Refusals.{good}
 use Rattle.fields.specs.Model.{Disk}
 use Rattle.registers.specs.Boxes.{Holds}
 use Rattle.registers.specs.View.{inside_of}
@@ -15,10 +14,11 @@ use Rattle.saves.specs.Words.{in_drive, Ready, Save, bytes_of, address_of, IsSav
 use Rattle.saves.proofs.Demand.{save-touches, still-other, second-alone, either_order}
 use Rattle.saves.proofs.ReadBack.{read_back}
 use Rattle.runs.proofs.Steps.{held-is}
+use Rattle.std.specs.Prelude.{Ok}
 
 -- ---- from calls to the machine
 
-store_is : (k : Host) (d : Disk) → in_drive (seen k) ≡ Holds (good d) → store_of k ≡ good d
+store_is : (k : Host) (d : Disk) → in_drive (seen k) ≡ Holds (Ok d) → store_of k ≡ Ok d
 unfolding inside_of
 store_is k d e = held-is k.floppy.regs.drive.disk (store_of k) d e
 
@@ -39,7 +39,7 @@ module _ (es : List Event) (k : Host) (s : Sound k) (g : Stage) (e : g ≡ stage
   pub made-back : (bytes : List ℕ) → Sends es bytes (run acted es g).answers → Sends es bytes (run called es k).answers
   made-back bytes m = subst (Sends es bytes) answers-are m
 
-  slot_is : (d : Disk) → in_drive (run acted es g).end.world ≡ Holds (good d) → store_of (run called es k).end ≡ good d
+  slot_is : (d : Disk) → in_drive (run acted es g).end.world ≡ Holds (Ok d) → store_of (run called es k).end ≡ Ok d
   slot_is d q = store_is (run called es k).end d (ap (λ (h : Stage). in_drive h.world) (sym end_is) ∙ q)
 
 -- ---- the demand
@@ -48,7 +48,7 @@ module _ (es : List Event) (k : Host) (s : Sound k) (g : Stage) (e : g ≡ stage
 -- disk on which the content of the sector at the address is the bytes sent, and nothing else is changed.
 pub save-calls : (a : Save) (d : Disk) (k : Host) (es : List Event)
     → Sound k → Ready (seen k) d → (save : IsSave a d) → Sends es (bytes_of a) (run called es k).answers
-    → (store_of (run called es k).end ≡ good (saved_by a d)) × Only (address_of a) a.content save.sector d (saved_by a d)
+    → (store_of (run called es k).end ≡ Ok (saved_by a d)) × Only (address_of a) a.content save.sector d (saved_by a d)
 save-calls a d k es sound ready save m =
     let t = save-touches a d (stage_of k) es ready save (made es k sound (stage_of k) refl (bytes_of a) m) in
     (slot_is es k sound (stage_of k) refl (saved_by a d) t.0.disk-in, t.1)

@@ -8,13 +8,12 @@ use lib.ListN.{length, get_or, set, take, drop, length-append, length-take, leng
 use lib.Seq.{slice, take-append-le}
 use borrow.Author.Tests.{eqb-false}
 use Rattle.fields.specs.Capacities.{most_held, most_transfer}
-use Rattle.fields.specs.Refusals.{Result, refused, good, after}
+use Rattle.fields.specs.Refusals.{after}
 use Rattle.fields.specs.Model.{Disk}
 use Rattle.fields.specs.declared.refusal.Refusal.{Refusal}
 use Rattle.fields.specs.declared.refusal.Refusal.TheVariants.{BadController, BadStore}
 use Rattle.fields.proofs.Tests.{never}
 use Rattle.store.specs.Store.{room_of, transfer_room}
-use Rattle.store.specs.declared.answer.Done.{Done}
 use Rattle.store.proofs.Checks.{transfer-in}
 use Rattle.codes.specs.declared.command.Command.{Command}
 use Rattle.codes.specs.Table.{command_of, bytes_for}
@@ -41,9 +40,10 @@ use Rattle.saves.proofs.Unbrokens.{acted-unbroken}
 use Rattle.runs.specs.Hosts.{Host, with_floppy, with_store, with_more, byte_said, flag_said, done_said, if_swapped, after_wrote, asked_in, called, seen, lent, stage_of, Sound, Agrees}
 use Rattle.runs.proofs.Effects.{MayRefuse, Clean, Breaks, store-clean, Fits, Proper, obeyed-proper, Ends, written-ends, transfer-kept, room-kept}
 use Rattle.registers.specs.Possible.{Small, Lawful, Short}
+use Rattle.std.specs.Prelude.{Result, Ok, Err}
 
 -- what is in a drive is the disk that the store holds
-pub held-is : (f : Bool) (disk : Result Disk) (d : Disk) → slot_if f disk ≡ Holds (good d) → disk ≡ good d
+pub held-is : (f : Bool) (disk : Result Disk Refusal) (d : Disk) → slot_if f disk ≡ Holds (Ok d) → disk ≡ Ok d
 held-is true disk d e = cc
 held-is false disk d e = never (cc)
 
@@ -71,9 +71,9 @@ module _ (r : Regs) (b : ℕ) (h t d x : List ℕ) (ok : impossible_in x r ≡ f
   Regs' y = regs_responded y.effect.response (regs_all y.effect.changes (regs_taken y.taking r))
 
   -- possible numbers, held bytes as many as they were, and what was laid fits the rooms; a refusal is not 1, and 2 only where the store breaks the layout
-  abbrev pub Keeps : Result Sent → Type 0
-  Keeps (refused why) = MayRefuse Bad why
-  Keeps (good y) =
+  abbrev pub Keeps : Result Sent Refusal → Type 0
+  Keeps (Err why) = MayRefuse Bad why
+  Keeps (Ok y) =
       Lawful (Regs' y) Room × ((length (held_taken y.taking r h) ≡ most_held) × (Short Room y.effect.response × Fits S y.effect.put))
 
   few : r.count < 9
@@ -88,9 +88,9 @@ module _ (r : Regs) (b : ℕ) (h t d x : List ℕ) (ok : impossible_in x r ≡ f
   command-keeps false k l q = unfold regs_all regs_responded in (kept-part r Room w b (q refl), (long, (tt, tt)))
   command-keeps true k l q = go (obeyed X S k l (drives_of r t d) r.index) (obeyed-proper X Bad S k l (drives_of r t d) r.index clean)
     where
-      go : (e : Result Effect) → Proper X Bad S e → Keeps (sends (Add b) (clearing e))
-      go (refused why) p = p
-      go (good e) p =
+      go : (e : Result Effect Refusal) → Proper X Bad S e → Keeps (sends (Add b) (clearing e))
+      go (Err why) p = p
+      go (Ok e) p =
           let l = kept-changes Room e.changes (regs_changed Clear (regs_taken (Add b) r)) p.0 (kept-last r Room w b) in
           (kept-response Room e.response _ p.1.0 (unfold regs_all in l), (long, p.1))
 
@@ -103,9 +103,9 @@ module _ (r : Regs) (b : ℕ) (h t d x : List ℕ) (ok : impossible_in x r ≡ f
   data-keeps on true l q =
       go (written S (writing_of r.write l) (named r.write.c1 (drives_of r t d))) (written-ends Bad S (writing_of r.write l) (drives_of r t d) clean)
     where
-      go : (e : Result Effect) → Ends Bad S e → Keeps (sends (Hold b) e)
-      go (refused why) p = p
-      go (good e) p =
+      go : (e : Result Effect Refusal) → Ends Bad S e → Keeps (sends (Hold b) e)
+      go (Err why) p = p
+      go (Ok e) p =
           let l : Lawful (regs_all (Finish ∷ []) (regs_taken (Hold b) r)) Room = kept-ended r Room w b in (
             kept-response Room e.response _ p.1.0 (subst (λ (cs : List Change). Lawful (regs_all cs (regs_taken (Hold b) r)) Room) (sym p.0) l),
             (length-set h r.write.taken b ∙ long, p.1),
@@ -214,7 +214,7 @@ module _ (k : Host) (s : Sound k) where
   disk-lawful present = rw (possible-in k.transfer R s.possible) (kept-disk R N lawful present)
 
   -- a change that was done lends the other store
-  swapped : (present : Bool) (t b : List ℕ) → Done → Host
+  swapped : (present : Bool) (t b : List ℕ) → Result (Unit {0}) Refusal → Host
   swapped present t b a = if_swapped a t b (With (disk_set present R).regs)
 
   swap-agrees : (present : Bool) (t b : List ℕ) → Agrees k (swap present t b)
@@ -224,7 +224,7 @@ module _ (k : Host) (s : Sound k) where
       let w = sound-of (with_store t b (With (disk_set present R).regs)) s.held (disk-lawful present) in (
         (λ i. record { answer = took silent; then = record { rooms = rooms_of b k.transfer; world = sym d.1 i } })
             ∙ (λ i. record { answer = done_said (sym d.0 i); then = stage_of (swapped present t b (sym d.0 i)) }),
-        subst (λ (a : Done). Sound (swapped present t b a)) (sym d.0) w,
+        subst (λ (a : Result (Unit {0}) Refusal). Sound (swapped present t b a)) (sym d.0) w,
       )
 
   -- ---- a longer transfer buffer
@@ -263,7 +263,7 @@ module _ (k : Host) (s : Sound k) where
   abbrev May : Refusal → Type 0
   May = MayRefuse (Breaks (slot_of R k.table k.bytes))
 
-  abbrev LeftAs : Result Sent → Left
+  abbrev LeftAs : Result Sent Refusal → Left
   LeftAs y = left_of y R H k.table k.bytes k.transfer
 
   -- the host after a byte that was taken
@@ -276,36 +276,36 @@ module _ (k : Host) (s : Sound k) where
   }
 
   module _ (b : ℕ) where
-    pub write_as : (y : Result Sent) → sent (lent k) I b ≡ y → data_write R b H k.table k.bytes k.transfer ≡ LeftAs y
+    pub write_as : (y : Result Sent Refusal) → sent (lent k) I b ≡ y → data_write R b H k.table k.bytes k.transfer ≡ LeftAs y
     unfolding data_write
     write_as y e = ap LeftAs (sym (sent-right R b H k.table k.bytes k.transfer s.possible s.held) ∙ e)
 
-    port-as : (y : Result Sent) → sent (lent k) I b ≡ y → write_port (lent k) (seen k) b ≡ after y (λ v. good (done (seen k) v))
+    port-as : (y : Result Sent Refusal) → sent (lent k) I b ≡ y → write_port (lent k) (seen k) b ≡ after y (λ v. Ok (done (seen k) v))
     unfolding write_port
-    port-as y e = ap (λ (z : Result Sent). after z (λ v. good (done (seen k) v))) e
+    port-as y e = ap (λ (z : Result Sent Refusal). after z (λ v. Ok (done (seen k) v))) e
 
-    abbrev SeesAs : Left → Result World → Type 0
+    abbrev SeesAs : Left → Result World Refusal → Type 0
     SeesAs l v = Sees R H k.table k.bytes k.transfer l (report_of (lent k) (seen k) b) v
 
-    then-seen : (y : Sent) → sent (lent k) I b ≡ good y → seen (Then y) ≡ done (seen k) y
+    then-seen : (y : Sent) → sent (lent k) I b ≡ Ok y → seen (Then y) ≡ done (seen k) y
     unfolding left_of regs_of
     then-seen y e =
-        let z : SeesAs (LeftAs (good y)) (good (done (seen k) y))
-        = subst (SeesAs (LeftAs (good y))) (port-as (good y) e)
-        (subst (λ (l : Left). SeesAs l (write_port (lent k) (seen k) b)) (write_as (good y) e)
+        let z : SeesAs (LeftAs (Ok y)) (Ok (done (seen k) y))
+        = subst (SeesAs (LeftAs (Ok y))) (port-as (Ok y) e)
+        (subst (λ (l : Left). SeesAs l (write_port (lent k) (seen k) b)) (write_as (Ok y) e)
         (write-seen R b H k.table k.bytes k.transfer s.possible s.nine s.seven s.held)) in
         z.1
 
-    abbrev KeepsAs : Result Sent → Type 0
+    abbrev KeepsAs : Result Sent Refusal → Type 0
     KeepsAs = Keeps R b H k.table k.bytes k.transfer s.possible s.nine s.seven small s.held
 
     -- the rooms are those that were lent
-    then-lent : (y : Sent) → KeepsAs (good y) → lent (Then y) ≡ lent k
+    then-lent : (y : Sent) → KeepsAs (Ok y) → lent (Then y) ≡ lent k
     then-lent y q =
         ap₂ {C = Rooms} (λ (n m : ℕ). record { room = n; transfer = m })
         (room-kept k.bytes k.transfer y.effect.put q.1.1.1) (transfer-kept k.transfer y.effect.response q.1.1.0)
 
-    then-sound : (y : Sent) → KeepsAs (good y) → Sound (Then y)
+    then-sound : (y : Sent) → KeepsAs (Ok y) → Sound (Then y)
     then-sound y q =
         sound-of (Then y) q.1.0
         (subst (λ (n : ℕ). Lawful (Then y).floppy.regs n) (sym (transfer-kept k.transfer y.effect.response q.1.1.0)) q.0)
@@ -314,30 +314,30 @@ module _ (k : Host) (s : Sound k) where
     abbrev CalledAs : Left → Next Answer Host
     CalledAs l = after_wrote (wrote_as l)
 
-    send-go : (y : Result Sent) → sent (lent k) I b ≡ y → KeepsAs y
+    send-go : (y : Result Sent Refusal) → sent (lent k) I b ≡ y → KeepsAs y
         → (byte_on (stage_of k) y ≡ record { answer = (CalledAs (LeftAs y)).answer; then = stage_of (CalledAs (LeftAs y)).then }) × Sound (CalledAs (LeftAs y)).then
     unfolding left_of regs_of
-    send-go (refused why) e q = (refl, s)
-    send-go (good y) e q = (λ i. record { answer = took y.effect.report; then = record { rooms = sym (then-lent y q) i; world = sym (then-seen y e) i } }, then-sound y q)
+    send-go (Err why) e q = (refl, s)
+    send-go (Ok y) e q = (λ i. record { answer = took y.effect.report; then = record { rooms = sym (then-lent y q) i; world = sym (then-seen y e) i } }, then-sound y q)
 
     send-agrees : Agrees k (send b)
     unfolding acted called write_port report_of
     send-agrees =
-        let y : Result Sent = sent (lent k) I b in
+        let y : Result Sent Refusal = sent (lent k) I b in
         let z = send-go y refl (sent-keeps R b H k.table k.bytes k.transfer s.possible s.nine s.seven small s.held) in (
           z.0 ∙ ap (λ (l : Left). record { answer = (CalledAs l).answer; then = stage_of (CalledAs l).then }) (sym (write_as y refl)),
           subst (λ (l : Left). Sound (CalledAs l).then) (sym (write_as y refl)) z.1,
         )
 
     -- a byte that is refused is refused with nothing else
-    sent-refused : (y : Result Sent) → KeepsAs y → (why : Refusal) → (byte_on (stage_of k) y).answer ≡ denied why → May why
-    sent-refused (refused z) q why e = let p : z ≡ why = cc in subst May p q
-    sent-refused (good y) q why e = never (cc)
+    sent-refused : (y : Result Sent Refusal) → KeepsAs y → (why : Refusal) → (byte_on (stage_of k) y).answer ≡ denied why → May why
+    sent-refused (Err z) q why e = let p : z ≡ why = cc in subst May p q
+    sent-refused (Ok y) q why e = never (cc)
 
     send-refused : (why : Refusal) → (acted (send b) (stage_of k)).answer ≡ denied why → May why
     unfolding acted write_port report_of
     send-refused why e =
-        let y : Result Sent = sent (lent k) I b in
+        let y : Result Sent Refusal = sent (lent k) I b in
         sent-refused y (sent-keeps R b H k.table k.bytes k.transfer s.possible s.nine s.seven small s.held) why e
 
   acted-refused : (e : Event) (why : Refusal) → (acted e (stage_of k)).answer ≡ denied why → May why

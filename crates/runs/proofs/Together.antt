@@ -4,10 +4,8 @@ use Prim.Native.Nat.{ℕ}
 use mathlib.Core.Bool.{Bool}
 use mathlib.Core.List.{List, [], ◌∷◌}
 use mathlib.Core.Option.{Option, none}
-use Rattle.fields.specs.Refusals.{Result, refused, good}
 use Rattle.fields.specs.Model.{Disk}
 use Rattle.store.specs.Store.{room_of}
-use Rattle.store.specs.declared.answer.Done.{Done}
 use Rattle.registers.specs.Boxes.{Sent}
 use Rattle.registers.specs.Calls.{disk_set}
 use Rattle.registers.proofs.Seen.{disk-seen}
@@ -19,6 +17,8 @@ use Rattle.saves.specs.Stages.{Stage, acted}
 use Rattle.runs.specs.Hosts.{Host, with_floppy, if_swapped, after_wrote, called, lent, stage_of, Sound}
 use Rattle.runs.specs.Alike.{Both, Alike}
 use Rattle.runs.proofs.Steps.{write_as, agrees}
+use Rattle.std.specs.Prelude.{Result, Ok, Err}
+use Rattle.fields.specs.declared.refusal.Refusal.{Refusal}
 
 -- ---- two runs beside each other
 
@@ -54,9 +54,9 @@ both_equal (x ∷ xs) (y ∷ ys) p = λ i. p.0 i ∷ both_equal xs ys p.1 i
 
 -- ---- the store after a call, by what is seen before it
 
-abbrev pub put_by : Result Sent → Option Disk
-put_by (refused why) = none
-put_by (good y) = y.effect.put
+abbrev pub put_by : Result Sent Refusal → Option Disk
+put_by (Err why) = none
+put_by (Ok y) = y.effect.put
 
 abbrev pub table_then : Event → Stage → List ℕ → List ℕ
 table_then poll g t = t
@@ -84,18 +84,18 @@ module _ (k : Host) (s : Sound k) where
   unfolding called
   sent-store b = go (sent (lent k) (stage_of k).world.inside b) refl
     where
-      left-table : (y : Result Sent) → (after_wrote (wrote_as (left_of y k.floppy.regs k.floppy.held k.table k.bytes k.transfer))).then.table ≡ table_with (put_by y) k.table
-      left-table (refused why) = unfold left_of in refl
-      left-table (good y) = unfold left_of in refl
+      left-table : (y : Result Sent Refusal) → (after_wrote (wrote_as (left_of y k.floppy.regs k.floppy.held k.table k.bytes k.transfer))).then.table ≡ table_with (put_by y) k.table
+      left-table (Err why) = unfold left_of in refl
+      left-table (Ok y) = unfold left_of in refl
 
-      left-data : (y : Result Sent) → (after_wrote (wrote_as (left_of y k.floppy.regs k.floppy.held k.table k.bytes k.transfer))).then.bytes ≡ data_with (put_by y) k.bytes
-      left-data (refused why) = unfold left_of in refl
-      left-data (good y) = unfold left_of in refl
+      left-data : (y : Result Sent Refusal) → (after_wrote (wrote_as (left_of y k.floppy.regs k.floppy.held k.table k.bytes k.transfer))).then.bytes ≡ data_with (put_by y) k.bytes
+      left-data (Err why) = unfold left_of in refl
+      left-data (Ok y) = unfold left_of in refl
 
-      go : (y : Result Sent) → sent (lent k) (stage_of k).world.inside b ≡ y → Store (send b)
+      go : (y : Result Sent Refusal) → sent (lent k) (stage_of k).world.inside b ≡ y → Store (send b)
       go y e = (
-        ap (λ (l : Left). (after_wrote (wrote_as l)).then.table) (write_as k s b y e) ∙ left-table y ∙ ap (λ (z : Result Sent). table_with (put_by z) k.table) (sym e),
-        ap (λ (l : Left). (after_wrote (wrote_as l)).then.bytes) (write_as k s b y e) ∙ left-data y ∙ ap (λ (z : Result Sent). data_with (put_by z) k.bytes) (sym e),
+        ap (λ (l : Left). (after_wrote (wrote_as l)).then.table) (write_as k s b y e) ∙ left-table y ∙ ap (λ (z : Result Sent Refusal). table_with (put_by z) k.table) (sym e),
+        ap (λ (l : Left). (after_wrote (wrote_as l)).then.bytes) (write_as k s b y e) ∙ left-data y ∙ ap (λ (z : Result Sent Refusal). data_with (put_by z) k.bytes) (sym e),
       )
 
   -- a disk change lends the other store from then on
@@ -105,7 +105,7 @@ module _ (k : Host) (s : Sound k) where
       let r = k.floppy.regs in
       let d = (disk-seen r k.floppy.held k.table k.bytes k.transfer s.possible s.nine s.seven present t b).0 in
       let j : Host = with_floppy (record { regs = (disk_set present r).regs; held = k.floppy.held }) k in
-      (ap (λ (a : Done). (if_swapped a t b j).table) d, ap (λ (a : Done). (if_swapped a t b j).bytes) d)
+      (ap (λ (a : Result (Unit {0}) Refusal). (if_swapped a t b j).table) d, ap (λ (a : Result (Unit {0}) Refusal). (if_swapped a t b j).bytes) d)
 
   store_then : (e : Event) → Store e
   unfolding called

@@ -6,7 +6,6 @@ use mathlib.Core.Bool.{true}
 use mathlib.Core.List.{List, [], ◌∷◌}
 use lib.ListN.{length, take, replicate, length-replicate}
 use Rattle.fields.specs.Capacities.{most_tracks, most_sectors, most_data, most_transfer}
-use Rattle.fields.specs.Refusals.{Result, good}
 use Rattle.fields.specs.Model.{Disk, Each, sector_count, byte_count}
 use Rattle.buffer.specs.Over.{over}
 use Rattle.store.specs.Store.{table_length, room_of, transfer_room, table_of, data_of, disk_of}
@@ -23,6 +22,8 @@ use Rattle.runs.proofs.Effects.{laid_kept}
 use Rattle.saves.specs.Words.{Ready, bytes_of, saved_by, Sends, read_bytes, given_in}
 use Rattle.runs.proofs.Gets.{end_is, made-back, save-calls, second-calls, order-calls, back-calls}
 use Rattle.saves.proofs.Witness.{start, example, again, other, E, A, O, B, L, grants, sending, ends, example-is, again-is, other-is, back_is, same, differ, reads, reads-lose-none, start-ready, Told, few, told_is}
+use Rattle.std.specs.Prelude.{Result, Ok}
+use Rattle.fields.specs.declared.refusal.Refusal.{Refusal}
 
 -- a fresh disk is what a store holds in which it is laid
 fresh-long : (length fresh ≤ most_tracks) × ((sector_count fresh ≤ most_sectors) × (byte_count fresh ≤ most_data))
@@ -39,7 +40,7 @@ room-is : room_of (replicate most_data 0) ≡ most_data
 unfolding room_of
 room-is = ap (λ (n : ℕ). min n most_data) (length-replicate {A = ℕ} most_data 0)
 
-fresh-laid : disk_of fresh_table fresh_bytes ≡ good fresh
+fresh-laid : disk_of fresh_table fresh_bytes ≡ Ok fresh
 unfolding fresh_table fresh_bytes
 fresh-laid =
     laid-back (replicate table_length 0) (replicate most_data 0) fresh (length-replicate {A = ℕ} table_length 0) fresh-long.0 fresh-long.1.0
@@ -73,7 +74,7 @@ host-ready n = subst (λ (g : Stage). Ready g.world fresh) (host-stage n) (start
 -- the disk that is put in is one that its store holds: refusal 2 never comes
 pub host-unbroken : Each PutsUnbroken (swap true fresh_table fresh_bytes ∷ [])
 unfolding Each PutsUnbroken
-host-unbroken = (subst (λ (y : Result Disk). Unbroken (Holds y)) (sym fresh-laid) tt, tt)
+host-unbroken = (subst (λ (y : Result Disk Refusal). Unbroken (Holds y)) (sym fresh-laid) tt, tt)
 
 -- where the calls stand
 abbrev E' : ℕ → Host
@@ -101,7 +102,7 @@ made-first : (n : ℕ) → Sends E (bytes_of example) (run called E (host n)).an
 made-first n = made-back E (host n) (host-sound n) (start (setting_of n)) (host-stage n) (bytes_of example) (sending (bytes_of example) _ (grants (setting_of n)).first)
 
 -- the store then holds the disk on which sector 3 of cylinder 7 has the bytes
-pub host-saves : (n : ℕ) → store_of (run called E (host n)).end ≡ good (saved_by example fresh)
+pub host-saves : (n : ℕ) → store_of (run called E (host n)).end ≡ Ok (saved_by example fresh)
 host-saves n = (save-calls example fresh (host n) E (host-sound n) (host-ready n) example-is (made-first n)).0
 
 -- the second to sector 3 alone counts

@@ -1,29 +1,21 @@
 -- The same calls as a host makes them: on a controller, with table, data and transfer buffer lent. Each call is what its promise says
 -- (`crates/floppy/src/lib.rt`).
-use Rattle.std.specs.Prelude.{◌≡◌, ℕ, ◌≤◌, ◌<◌, false, List, ◌++◌, length}
+use Rattle.std.specs.Prelude.{◌≡◌, ℕ, ◌≤◌, ◌<◌, false, List, ◌++◌, length, Result, Ok, Err, Bool}
 use Rattle.fields.specs.Capacities.{most_held}
-use Rattle.fields.specs.Refusals.{Result}
 use Rattle.fields.specs.Model.{Disk}
 use Rattle.store.specs.Store.{disk_of}
-use Rattle.store.specs.declared.answer.Done.{Done}
-use Rattle.store.specs.declared.answer.Done.TheVariants as done
-use Rattle.registers.specs.declared.regs.Receipt.{Receipt}
-use Rattle.registers.specs.declared.regs.Receipt.TheVariants as receipt
-use Rattle.registers.specs.declared.regs.Byte.{Byte}
-use Rattle.registers.specs.declared.regs.Byte.TheVariants as byte
-use Rattle.registers.specs.declared.regs.Flag.{Flag}
-use Rattle.registers.specs.declared.regs.Flag.TheVariants as flag
 use Rattle.registers.specs.declared.regs.Regs.{Regs}
 use Rattle.registers.specs.Boxes.{Rooms, World, silent}
 use Rattle.registers.specs.View.{rooms_of, world_of, impossible_in}
 use Rattle.registers.specs.Calls.{motor_set, disk_set, motor_of, current_track, disk_in}
 use Rattle.floppy.specs.declared.Floppy.{Floppy}
-use Rattle.floppy.specs.declared.Shown.{Shown}
-use Rattle.floppy.specs.declared.Changed.{Changed}
 use Rattle.floppy.specs.Calls.{new_floppy, changed_as, Wrote, wrote, status_call, read_call, write_call}
 use Rattle.saves.specs.Events.{Question, motor_on?, which_track?, disk_in?, Event, poll, read, send, ask, switch, swap, widen}
 use Rattle.saves.specs.Events.{Answer, showed, gave, took, said, stood, denied, Next}
 use Rattle.saves.specs.Stages.{Stage, acted}
+use Rattle.fields.specs.declared.refusal.Refusal.{Refusal}
+use Rattle.registers.specs.declared.regs.Report.{Report}
+use Rattle.floppy.specs.declared.Shown.{Shown}
 
 -- what a host has: the controller and the three lent buffers
 pub record Host : Type 0 where
@@ -45,42 +37,42 @@ with_more y k = record { floppy = k.floppy; table = k.table; bytes = k.bytes; tr
 -- ---- Answers: what a call by value answers, as one of those of `Events`
 
 -- a byte, yes or no, that it was done, that a byte was taken and what is told; or the refusal
-abbrev pub byte_said : (ℕ → Answer) → Byte → Answer
-byte_said f (byte.Of n) = f n
-byte_said f (byte.Refused why) = denied why
+abbrev pub byte_said : (ℕ → Answer) → Result ℕ Refusal → Answer
+byte_said f (Ok n) = f n
+byte_said f (Err why) = denied why
 
-abbrev pub flag_said : Flag → Answer
-flag_said (flag.Of f) = said f
-flag_said (flag.Refused why) = denied why
+abbrev pub flag_said : Result Bool Refusal → Answer
+flag_said (Ok f) = said f
+flag_said (Err why) = denied why
 
-abbrev pub done_said : Done → Answer
-done_said done.Good = took silent
-done_said (done.Refused why) = denied why
+abbrev pub done_said : Result (Unit {0}) Refusal → Answer
+done_said (Ok tt) = took silent
+done_said (Err why) = denied why
 
-abbrev pub receipt_said : Receipt → Answer
-receipt_said (receipt.Good x) = took x
-receipt_said (receipt.Refused why) = denied why
+abbrev pub receipt_said : Result Report Refusal → Answer
+receipt_said (Ok x) = took x
+receipt_said (Err why) = denied why
 
 -- ---- Calls
 
 -- a port read, a change, and a byte sent
-abbrev pub after_shown : (ℕ → Answer) → Shown → Host → Next Answer Host
-after_shown f a k = record { answer = byte_said f a.byte; then = with_floppy a.floppy k }
+abbrev pub after_shown : (ℕ → Answer) → Shown ℕ → Host → Next Answer Host
+after_shown f a k = record { answer = byte_said f a.answer; then = with_floppy a.floppy k }
 
-abbrev pub after_changed : Changed → Host → Next Answer Host
-after_changed a k = record { answer = done_said a.done; then = with_floppy a.floppy k }
+abbrev pub after_changed : Shown (Unit {0}) → Host → Next Answer Host
+after_changed a k = record { answer = done_said a.answer; then = with_floppy a.floppy k }
 
 abbrev pub after_wrote : Wrote → Next Answer Host
 after_wrote (wrote a t b x) =
-    record { answer = receipt_said a.receipt; then = record { floppy = a.floppy; table = t; bytes = b; transfer = x } }
+    record { answer = receipt_said a.answer; then = record { floppy = a.floppy; table = t; bytes = b; transfer = x } }
 
 -- the store that is lent from then on, unless the change was refused
-abbrev pub if_swapped : Done → List ℕ → List ℕ → Host → Host
-if_swapped done.Good t b k = with_store t b k
-if_swapped (done.Refused why) t b k = k
+abbrev pub if_swapped : Result (Unit {0}) Refusal → List ℕ → List ℕ → Host → Host
+if_swapped (Ok tt) t b k = with_store t b k
+if_swapped (Err why) t b k = k
 
-abbrev pub after_swapped : Changed → List ℕ → List ℕ → Host → Next Answer Host
-after_swapped a t b k = record { answer = done_said a.done; then = if_swapped a.done t b (with_floppy a.floppy k) }
+abbrev pub after_swapped : Shown (Unit {0}) → List ℕ → List ℕ → Host → Next Answer Host
+after_swapped a t b k = record { answer = done_said a.answer; then = if_swapped a.answer t b (with_floppy a.floppy k) }
 
 -- what the controller tells
 unfoldable pub asked_in : Question → Regs → Answer
@@ -111,7 +103,7 @@ abbrev pub stage_of : Host → Stage
 stage_of k = record { rooms = lent k; world = seen k }
 
 -- the disk that a host's store holds
-abbrev pub store_of : Host → Result Disk
+abbrev pub store_of : Host → Result Disk Refusal
 store_of k = disk_of k.table k.bytes
 
 -- a new controller with a setting, and with buffers lent

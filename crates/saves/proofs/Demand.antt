@@ -7,7 +7,7 @@ use mathlib.Core.List.{List, [], ◌∷◌}
 use lib.ListN.{length}
 use lib.Dec.{leb}
 use borrow.Author.Tests.{eq-eqb}
-use Rattle.fields.specs.Refusals.{Result, good, need, after}
+use Rattle.fields.specs.Refusals.{need, after}
 use Rattle.fields.specs.Model.{size_of, Sector, Disk, byte_count}
 use Rattle.fields.specs.declared.id.SectorId.{SectorId}
 use Rattle.fields.specs.declared.refusal.Refusal.TheVariants.{NoRoom}
@@ -28,10 +28,12 @@ use Rattle.saves.specs.Words.{in_drive, Ready, Address, Save, bytes_of, address_
 use Rattle.saves.proofs.Finds.{map_found}
 use Rattle.saves.proofs.Places.{at, save-twice, save-found, save-other, save-comm, save-only}
 use Rattle.saves.proofs.Feeding.{effected, fed, run-fed, drive_over, partly, writing, Written, command-fed, data-fed}
+use Rattle.std.specs.Prelude.{Result, Ok}
+use Rattle.fields.specs.declared.refusal.Refusal.{Refusal}
 
 -- ---- the three parts of a save
 
-pub drive-0 : (c1 c : ℕ) (d : Disk) → drive_of c1 ≡ 0 → named c1 (drive_over c d) ≡ record { fitted = true; cylinder = c; slot = Holds (good d) }
+pub drive-0 : (c1 c : ℕ) (d : Disk) → drive_of c1 ≡ 0 → named c1 (drive_over c d) ≡ record { fitted = true; cylinder = c; slot = Holds (Ok d) }
 unfolding named
 drive-0 c1 c d e = rw (eq-eqb (drive_of c1) 0 e)
 
@@ -50,18 +52,18 @@ module _ (s : Rooms) (σ : Setting) (m : Bool) (x : ℕ) (d : Disk) where
       ∙ rw (drive-0 c1 c d f, g)
 
   -- the disk then, or 8
-  abbrev After : ℕ → Disk → Result Inside
-  After c new = need (leb (byte_count new) s.room) NoRoom (good (partly σ m c x new []))
+  abbrev After : ℕ → Disk → Result Inside Refusal
+  After c new = need (leb (byte_count new) s.room) NoRoom (Ok (partly σ m c x new []))
 
   written_is : (c c1 : ℕ) (id : SectorId) (bytes : List ℕ) (k : ℕ) (z : Sector) → drive_of c1 ≡ 0 → sector_at d (head_of c1) c id ≡ found k z
-      → after (Written s σ m c x d c1 id bytes) (λ e. good (effected e (writing σ m c x d c1 id bytes))) ≡ After c (saved (head_of c1) c id bytes d)
+      → after (Written s σ m c x d c1 id bytes) (λ e. Ok (effected e (writing σ m c x d c1 id bytes))) ≡ After c (saved (head_of c1) c id bytes d)
   unfolding written_into written_sector save_at changed all_changed put_in
   written_is c c1 id bytes k z f g = rw (drive-0 c1 c d f, g) (go (leb (byte_count (saved (head_of c1) c id bytes d)) s.room))
     where
       go : (v : Bool)
           → after (need v NoRoom (puts (serves (match_at d (head_of c1) c id)) (Finish ∷ []) (saved (head_of c1) c id bytes d) (write_reply c1 id)))
-          (λ e. good (effected e (writing σ m c x d c1 id bytes)))
-          ≡ need v NoRoom (good (partly σ m c x (saved (head_of c1) c id bytes d) []))
+          (λ e. Ok (effected e (writing σ m c x d c1 id bytes)))
+          ≡ need v NoRoom (Ok (partly σ m c x (saved (head_of c1) c id bytes d) []))
       go true = refl
       go false = refl
 
@@ -94,8 +96,8 @@ saved-inside a d g es ready save made =
     let s : Rooms = g.rooms in
     let w : World = g.world in
     let i : Inside = partly w.inside.setting w.inside.motor w.inside.drives.first.cylinder w.inside.index d [] in
-    let e : fed s (bytes_of a) i ≡ good (run acted es g).end.world.inside = ap (fed s (bytes_of a)) (sym (ready-is w d ready)) ∙ (run-fed es g (bytes_of a) made.sends made.grants).inside in
-    let n = need-good (leb (byte_count (saved_by a d)) s.room) NoRoom (good (partly w.inside.setting w.inside.motor a.cylinder w.inside.index (saved_by a d) [])) (run acted es g).end.world.inside
+    let e : fed s (bytes_of a) i ≡ Ok (run acted es g).end.world.inside = ap (fed s (bytes_of a)) (sym (ready-is w d ready)) ∙ (run-fed es g (bytes_of a) made.sends made.grants).inside in
+    let n = need-good (leb (byte_count (saved_by a d)) s.room) NoRoom (Ok (partly w.inside.setting w.inside.motor a.cylinder w.inside.index (saved_by a d) [])) (run acted es g).end.world.inside
     (sym (save-fed s w.inside.setting w.inside.motor w.inside.index d w.inside.drives.first.cylinder a save) ∙ e) in
     cc n.1
 
@@ -150,7 +152,7 @@ pub second-alone : (a b : Save) (d : Disk) (g : Stage) (es fs gs : List Event)
     → in_drive (run acted fs (run acted es g).end).end.world ≡ in_drive (run acted gs g).end.world
 second-alone a b d g es fs gs ready sa sb same ma mb mc =
     (saved-ready b (saved_by a d) (run acted es g).end fs (saved-ready a d g es ready sa ma) (still-same a b d same sb) mb).disk-in
-    ∙ ap (λ (y : Disk). Holds (good y)) (ap (λ (y : Address). saved_at (address_of b) b.content (saved_at y a.content d)) same ∙ save-twice (address_of b) a.content b.content d)
+    ∙ ap (λ (y : Disk). Holds (Ok y)) (ap (λ (y : Address). saved_at (address_of b) b.content (saved_at y a.content d)) same ∙ save-twice (address_of b) a.content b.content d)
     ∙ sym (saved-ready b d g gs ready sb mc).disk-in
 
 -- Saves to two addresses leave the same disk in either order, if neither order is refused.
@@ -161,5 +163,5 @@ pub either_order : (a b : Save) (d : Disk) (g : Stage) (es fs fs' es' : List Eve
     → in_drive (run acted fs (run acted es g).end).end.world ≡ in_drive (run acted es' (run acted fs' g).end).end.world
 either_order a b d g es fs fs' es' ready sa sb differ ma mb mb' ma' =
     (saved-ready b (saved_by a d) (run acted es g).end fs (saved-ready a d g es ready sa ma) (still-other a b d differ sb) mb).disk-in
-    ∙ ap (λ (y : Disk). Holds (good y)) (save-comm (address_of a) (address_of b) differ a.content b.content d)
+    ∙ ap (λ (y : Disk). Holds (Ok y)) (save-comm (address_of a) (address_of b) differ a.content b.content d)
     ∙ sym (saved-ready a (saved_by b d) (run acted fs' g).end es' (saved-ready b d g fs' ready sb mb') (still-other b a d (λ e. differ (sym e)) sa) ma').disk-in

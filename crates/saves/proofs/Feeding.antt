@@ -8,7 +8,7 @@ use mathlib.Core.Option.{Option, none, some}
 use lib.ListN.{length, length-append}
 use lib.Seq.{append_snoc}
 use borrow.Author.Tests.{eq-eqb, ne_eqb}
-use Rattle.fields.specs.Refusals.{Result, refused, good, after}
+use Rattle.fields.specs.Refusals.{after}
 use Rattle.fields.specs.Model.{size_of, Disk}
 use Rattle.fields.specs.declared.id.SectorId.{SectorId}
 use Rattle.codes.specs.declared.command.Command.{Command}
@@ -23,6 +23,8 @@ use Rattle.fields.proofs.Tests.{never}
 use Rattle.saves.specs.Events.{Question, motor_on?, which_track?, disk_in?, Event, poll, read, send, ask, switch, swap, widen, Answer, took, Next, run, granted}
 use Rattle.saves.specs.Stages.{Stage, with_world, sent_on, answer_to, acted}
 use Rattle.saves.specs.Words.{first_of, sent_in}
+use Rattle.std.specs.Prelude.{Result, Ok, Err}
+use Rattle.fields.specs.declared.refusal.Refusal.{Refusal}
 
 -- ---- a byte, inside
 
@@ -30,12 +32,12 @@ use Rattle.saves.specs.Words.{first_of, sent_in}
 abbrev pub effected : Effect → Inside → Inside
 effected e i = put_in e.put (all_changed e.changes i)
 
-unfoldable pub stepped : Rooms → Inside → ℕ → Result Inside
-stepped s i b = after (sent s i b) (λ x. good (effected x.effect (taken x.taking i)))
+unfoldable pub stepped : Rooms → Inside → ℕ → Result Inside Refusal
+stepped s i b = after (sent s i b) (λ x. Ok (effected x.effect (taken x.taking i)))
 
 -- the bytes, one after another
-unfoldable pub fed : Rooms → List ℕ → Inside → Result Inside
-fed s [] i = good i
+unfoldable pub fed : Rooms → List ℕ → Inside → Result Inside Refusal
+fed s [] i = Ok i
 fed s (b ∷ bs) i = after (stepped s i b) (λ j. fed s bs j)
 
 -- one byte that is sent, before others
@@ -45,15 +47,15 @@ first-is b (some n) l e m q = let z : b ∷ n ≡ l = cc in let y : n ≡ m = cc
 
 -- what a sequence of port reads, questions and sent bytes does: its bytes do it inside, and the rooms stay
 pub record Fed (es : List Event) (g : Stage) (l : List ℕ) : Type 0 where
-  pub inside : fed g.rooms l g.world.inside ≡ good (run acted es g).end.world.inside
+  pub inside : fed g.rooms l g.world.inside ≡ Ok (run acted es g).end.world.inside
   pub rooms : (run acted es g).end.rooms ≡ g.rooms
 
 -- a byte sent, by all that it does
-abbrev pub byte_on : Stage → Result Sent → Next Answer Stage
-byte_on g x = sent_on g (reported x) (after x (λ v. good (done g.world v)))
+abbrev pub byte_on : Stage → Result Sent Refusal → Next Answer Stage
+byte_on g x = sent_on g (reported x) (after x (λ v. Ok (done g.world v)))
 
 -- a byte sent that is taken, on the machine and inside
-module _ (b : ℕ) (g : Stage) (y : Sent) (q : sent g.rooms g.world.inside b ≡ good y) where
+module _ (b : ℕ) (g : Stage) (y : Sent) (q : sent g.rooms g.world.inside b ≡ Ok y) where
   taken_is : acted (send b) g ≡ record { answer = took y.effect.report; then = with_world (done g.world y) g }
   unfolding acted write_port report_of
   taken_is = ap (byte_on g) q
@@ -64,23 +66,23 @@ module _ (b : ℕ) (g : Stage) (y : Sent) (q : sent g.rooms g.world.inside b ≡
 
   step_is : (m : List ℕ) → fed g.rooms (b ∷ m) g.world.inside ≡ fed g.rooms m (done g.world y).inside
   unfolding fed stepped done
-  step_is m = ap (λ (z : Result Sent). after (after z (λ v. good (effected v.effect (taken v.taking g.world.inside)))) (λ j. fed g.rooms m j)) q
+  step_is m = ap (λ (z : Result Sent Refusal). after (after z (λ v. Ok (effected v.effect (taken v.taking g.world.inside)))) (λ j. fed g.rooms m j)) q
 
 -- the answer to a byte, and what follows
-abbrev AfterByte : List Event → Stage → Result Sent → List Answer
+abbrev AfterByte : List Event → Stage → Result Sent Refusal → List Answer
 AfterByte es g x = let y : Next Answer Stage = byte_on g x in y.answer ∷ (run acted es y.then).answers
 
 sent-go : (b : ℕ) (es : List Event) (g : Stage) (l : List ℕ) → first_of b (sent_in es) ≡ some l
     → ((h : Stage) (m : List ℕ) → sent_in es ≡ some m → granted (run acted es h).answers ≡ true → Fed es h m)
-    → (o : Option (List ℕ)) → sent_in es ≡ o → (x : Result Sent) → sent g.rooms g.world.inside b ≡ x → granted (AfterByte es g x) ≡ true → Fed (send b ∷ es) g l
+    → (o : Option (List ℕ)) → sent_in es ≡ o → (x : Result Sent Refusal) → sent g.rooms g.world.inside b ≡ x → granted (AfterByte es g x) ≡ true → Fed (send b ∷ es) g l
 unfolding granted
 sent-go b es g l e ih none n x q ok = let z : first_of b none ≡ some l = ap (first_of b) (sym n) ∙ e in never (cc)
-sent-go b es g l e ih (some m) n (refused why) q ok = never (cc)
-sent-go b es g l e ih (some m) n (good y) q ok =
+sent-go b es g l e ih (some m) n (Err why) q ok = never (cc)
+sent-go b es g l e ih (some m) n (Ok y) q ok =
     let r = ih (with_world (done g.world y) g) m n ok in
     record {
       inside = ap (λ (v : List ℕ). fed g.rooms v g.world.inside) (first-is b (sent_in es) l e m n) ∙ step_is b g y q m ∙ r.inside
-          ∙ ap (λ (z : Stage). good z.world.inside) (sym (end_is b g y q es));
+          ∙ ap (λ (z : Stage). Ok z.world.inside) (sym (end_is b g y q es));
       rooms = ap (λ (z : Stage). z.rooms) (end_is b g y q es) ∙ r.rooms;
     }
 
@@ -108,7 +110,7 @@ run-fed (widen y ∷ es) g l e ok = never (cc)
 
 -- drive 0 over a cylinder, with a disk in
 abbrev pub drive_over : ℕ → Disk → Drives
-drive_over c d = record { first = record { cylinder = c; slot = Holds (good d) } }
+drive_over c d = record { first = record { cylinder = c; slot = Holds (Ok d) } }
 
 -- no write in progress, a disk in, and so much of a command sent
 abbrev pub partly : Setting → Bool → ℕ → ℕ → Disk → List ℕ → Inside
@@ -122,84 +124,84 @@ writing σ m c x d c1 id held =
 module _ (s : Rooms) (σ : Setting) (m : Bool) (c x : ℕ) (d : Disk) where
   module _ (p : List ℕ) (b : ℕ) (k : Command) (first : command_of (byte (p ++ (b ∷ [])) 0) ≡ k) where
     -- a command that is not yet whole waits
-    step_part : (length (p ++ (b ∷ [])) ≡ bytes_for k → ⊥) → stepped s (partly σ m c x d p) b ≡ good (partly σ m c x d (p ++ (b ∷ [])))
+    step_part : (length (p ++ (b ∷ [])) ≡ bytes_for k → ⊥) → stepped s (partly σ m c x d p) b ≡ Ok (partly σ m c x d (p ++ (b ∷ [])))
     unfolding stepped sent byte_for command_byte command_if taken all_changed put_in
     step_part n = rw (first, ne_eqb (length (p ++ (b ∷ []))) (bytes_for k) n)
 
     -- and one that is whole is obeyed
     step-whole : length (p ++ (b ∷ [])) ≡ bytes_for k
-        → stepped s (partly σ m c x d p) b ≡ after (obeyed σ s k (p ++ (b ∷ [])) (drive_over c d) x) (λ e. good (effected e (partly σ m c x d [])))
+        → stepped s (partly σ m c x d p) b ≡ after (obeyed σ s k (p ++ (b ∷ [])) (drive_over c d) x) (λ e. Ok (effected e (partly σ m c x d [])))
     unfolding stepped sent byte_for command_byte command_if
     step-whole n = rw (first, eq-eqb (length (p ++ (b ∷ []))) (bytes_for k) n) (cleared (obeyed σ s k (p ++ (b ∷ [])) (drive_over c d) x))
       where
-        cleared : (e : Result Effect) → after (sends (Add b) (clearing e)) (λ y. good (effected y.effect (taken y.taking (partly σ m c x d p)))) ≡ after e (λ y. good (effected y (partly σ m c x d [])))
-        cleared (refused why) = refl
-        cleared (good e) = unfold taken all_changed changed in refl
+        cleared : (e : Result Effect Refusal) → after (sends (Add b) (clearing e)) (λ y. Ok (effected y.effect (taken y.taking (partly σ m c x d p)))) ≡ after e (λ y. Ok (effected y (partly σ m c x d [])))
+        cleared (Err why) = refl
+        cleared (Ok e) = unfold taken all_changed changed in refl
 
   rest-fed : (f : ℕ) (k : Command) → command_of f ≡ k → (p : List ℕ) (b : ℕ) (r bs : List ℕ) → suc (length p) + suc (length r) ≡ bytes_for k
-      → fed s (b ∷ (r ++ bs)) (partly σ m c x d (f ∷ p)) ≡ after (after (obeyed σ s k (f ∷ (p ++ (b ∷ r))) (drive_over c d) x) (λ e. good (effected e (partly σ m c x d [])))) (λ j. fed s bs j)
+      → fed s (b ∷ (r ++ bs)) (partly σ m c x d (f ∷ p)) ≡ after (after (obeyed σ s k (f ∷ (p ++ (b ∷ r))) (drive_over c d) x) (λ e. Ok (effected e (partly σ m c x d [])))) (λ j. fed s bs j)
   unfolding fed
-  rest-fed f k e p b [] bs n = ap (λ (y : Result Inside). after y (λ j. fed s bs j)) (step-whole (f ∷ p) b k e (simp length-append (omega arith)))
+  rest-fed f k e p b [] bs n = ap (λ (y : Result Inside Refusal). after y (λ j. fed s bs j)) (step-whole (f ∷ p) b k e (simp length-append (omega arith)))
   rest-fed f k e p b (b' ∷ r) bs n =
       let z : (p ++ (b ∷ [])) ++ (b' ∷ r) ≡ p ++ (b ∷ (b' ∷ r)) = append_snoc p b (b' ∷ r) in
-      ap (λ (y : Result Inside). after y (λ j. fed s (b' ∷ (r ++ bs)) j)) (step_part (f ∷ p) b k e (simp length-append (omega arith)))
+      ap (λ (y : Result Inside Refusal). after y (λ j. fed s (b' ∷ (r ++ bs)) j)) (step_part (f ∷ p) b k e (simp length-append (omega arith)))
       ∙ rest-fed f k e (p ++ (b ∷ [])) b' r bs (simp length-append (omega arith))
-      ∙ ap (λ (l : List ℕ). after (after (obeyed σ s k (f ∷ l) (drive_over c d) x) (λ e. good (effected e (partly σ m c x d [])))) (λ j. fed s bs j)) z
+      ∙ ap (λ (l : List ℕ). after (after (obeyed σ s k (f ∷ l) (drive_over c d) x) (λ e. Ok (effected e (partly σ m c x d [])))) (λ j. fed s bs j)) z
 
   -- a command of two bytes or more
   pub command-fed : (f : ℕ) (k : Command) → command_of f ≡ k → (b : ℕ) (r bs : List ℕ) → suc (suc (length r)) ≡ bytes_for k
-      → fed s (f ∷ (b ∷ (r ++ bs))) (partly σ m c x d []) ≡ after (after (obeyed σ s k (f ∷ (b ∷ r)) (drive_over c d) x) (λ e. good (effected e (partly σ m c x d [])))) (λ j. fed s bs j)
+      → fed s (f ∷ (b ∷ (r ++ bs))) (partly σ m c x d []) ≡ after (after (obeyed σ s k (f ∷ (b ∷ r)) (drive_over c d) x) (λ e. Ok (effected e (partly σ m c x d [])))) (λ j. fed s bs j)
   unfolding fed
   command-fed f k e b r bs n =
-      ap (λ (y : Result Inside). after y (λ j. fed s (b ∷ (r ++ bs)) j)) (step_part [] f k e (omega arith))
+      ap (λ (y : Result Inside Refusal). after y (λ j. fed s (b ∷ (r ++ bs)) j)) (step_part [] f k e (omega arith))
       ∙ rest-fed f k e [] b r bs (omega arith)
 
   more-fed : (f : ℕ) (k : Command) → command_of f ≡ k → (p r : List ℕ) → suc (length p) + length r < bytes_for k
-      → fed s r (partly σ m c x d (f ∷ p)) ≡ good (partly σ m c x d (f ∷ (p ++ r)))
+      → fed s r (partly σ m c x d (f ∷ p)) ≡ Ok (partly σ m c x d (f ∷ (p ++ r)))
   unfolding fed
-  more-fed f k e p [] n = ap (λ (l : List ℕ). good (partly σ m c x d (f ∷ l))) (sym (append-nil p))
+  more-fed f k e p [] n = ap (λ (l : List ℕ). Ok (partly σ m c x d (f ∷ l))) (sym (append-nil p))
   more-fed f k e p (b ∷ r) n =
-      ap (λ (y : Result Inside). after y (λ j. fed s r j)) (step_part (f ∷ p) b k e (simp length-append (omega arith)))
+      ap (λ (y : Result Inside Refusal). after y (λ j. fed s r j)) (step_part (f ∷ p) b k e (simp length-append (omega arith)))
       ∙ more-fed f k e (p ++ (b ∷ [])) r (simp length-append (omega arith))
-      ∙ ap (λ (l : List ℕ). good (partly σ m c x d (f ∷ l))) (append_snoc p b r)
+      ∙ ap (λ (l : List ℕ). Ok (partly σ m c x d (f ∷ l))) (append_snoc p b r)
 
   -- a command of which bytes are still to come
-  pub part-fed : (f : ℕ) (k : Command) → command_of f ≡ k → (r : List ℕ) → suc (length r) < bytes_for k → fed s (f ∷ r) (partly σ m c x d []) ≡ good (partly σ m c x d (f ∷ r))
+  pub part-fed : (f : ℕ) (k : Command) → command_of f ≡ k → (r : List ℕ) → suc (length r) < bytes_for k → fed s (f ∷ r) (partly σ m c x d []) ≡ Ok (partly σ m c x d (f ∷ r))
   unfolding fed
-  part-fed f k e r n = ap (λ (y : Result Inside). after y (λ j. fed s r j)) (step_part [] f k e (omega arith)) ∙ more-fed f k e [] r (omega arith)
+  part-fed f k e r n = ap (λ (y : Result Inside Refusal). after y (λ j. fed s r j)) (step_part [] f k e (omega arith)) ∙ more-fed f k e [] r (omega arith)
 
   -- ---- a byte of a write
 
   module _ (c1 : ℕ) (id : SectorId) where
-    abbrev pub Written : List ℕ → Result Effect
+    abbrev pub Written : List ℕ → Result Effect Refusal
     Written held = written s (record { c1 = c1; goal = IntoSector id; held = held }) (named c1 (drive_over c d))
 
-    data-part : (held : List ℕ) (b : ℕ) → (length (held ++ (b ∷ [])) ≡ size_of id.n → ⊥) → stepped s (writing σ m c x d c1 id held) b ≡ good (writing σ m c x d c1 id (held ++ (b ∷ [])))
+    data-part : (held : List ℕ) (b : ℕ) → (length (held ++ (b ∷ [])) ≡ size_of id.n → ⊥) → stepped s (writing σ m c x d c1 id held) b ≡ Ok (writing σ m c x d c1 id (held ++ (b ∷ [])))
     unfolding stepped sent byte_for data_byte data_if taken all_changed put_in
     data-part held b n = rw (ne_eqb (length (held ++ (b ∷ []))) (size_of id.n) n)
 
     data-whole : (held : List ℕ) (b : ℕ) → length (held ++ (b ∷ [])) ≡ size_of id.n
         → stepped s (writing σ m c x d c1 id held) b
-        ≡ after (Written (held ++ (b ∷ []))) (λ e. good (effected e (writing σ m c x d c1 id (held ++ (b ∷ [])))))
+        ≡ after (Written (held ++ (b ∷ []))) (λ e. Ok (effected e (writing σ m c x d c1 id (held ++ (b ∷ [])))))
     unfolding stepped sent byte_for data_byte data_if
     data-whole held b n = rw (eq-eqb (length (held ++ (b ∷ []))) (size_of id.n) n) (held_all (Written (held ++ (b ∷ []))))
       where
-        held_all : (e : Result Effect) → after (sends (Hold b) e) (λ y. good (effected y.effect (taken y.taking (writing σ m c x d c1 id held)))) ≡ after e (λ y. good (effected y (writing σ m c x d c1 id (held ++ (b ∷ [])))))
-        held_all (refused why) = refl
-        held_all (good e) = unfold taken in refl
+        held_all : (e : Result Effect Refusal) → after (sends (Hold b) e) (λ y. Ok (effected y.effect (taken y.taking (writing σ m c x d c1 id held)))) ≡ after e (λ y. Ok (effected y (writing σ m c x d c1 id (held ++ (b ∷ [])))))
+        held_all (Err why) = refl
+        held_all (Ok e) = unfold taken in refl
 
-    after-good : (y : Result Inside) → after y (λ j. fed s [] j) ≡ y
+    after-good : (y : Result Inside Refusal) → after y (λ j. fed s [] j) ≡ y
     unfolding fed
-    after-good (refused why) = refl
-    after-good (good j) = refl
+    after-good (Err why) = refl
+    after-good (Ok j) = refl
 
     -- the bytes of a write: with the last one it is done
     pub data-fed : (held : List ℕ) (b : ℕ) (r : List ℕ) → length held + suc (length r) ≡ size_of id.n
         → fed s (b ∷ r) (writing σ m c x d c1 id held)
-        ≡ after (Written (held ++ (b ∷ r))) (λ e. good (effected e (writing σ m c x d c1 id (held ++ (b ∷ r)))))
+        ≡ after (Written (held ++ (b ∷ r))) (λ e. Ok (effected e (writing σ m c x d c1 id (held ++ (b ∷ r)))))
     unfolding fed
     data-fed held b [] n = after-good (stepped s (writing σ m c x d c1 id held) b) ∙ data-whole held b (simp length-append (omega arith))
     data-fed held b (b' ∷ r) n =
-        ap (λ (y : Result Inside). after y (λ j. fed s (b' ∷ r) j)) (data-part held b (simp length-append (omega arith)))
+        ap (λ (y : Result Inside Refusal). after y (λ j. fed s (b' ∷ r) j)) (data-part held b (simp length-append (omega arith)))
         ∙ data-fed (held ++ (b ∷ [])) b' r (simp length-append (omega arith))
-        ∙ ap (λ (l : List ℕ). after (Written l) (λ e. good (effected e (writing σ m c x d c1 id l)))) (append_snoc held b (b' ∷ r))
+        ∙ ap (λ (l : List ℕ). after (Written l) (λ e. Ok (effected e (writing σ m c x d c1 id l)))) (append_snoc held b (b' ∷ r))

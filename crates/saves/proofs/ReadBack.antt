@@ -8,7 +8,7 @@ use lib.ListN.{length, take}
 use lib.Dec.{leb}
 use borrow.Author.Tests.{eq-eqb}
 use Rattle.fields.specs.Bytes.{with_bit}
-use Rattle.fields.specs.Refusals.{Result, good, need}
+use Rattle.fields.specs.Refusals.{need}
 use Rattle.fields.specs.Model.{size_of, total, Sector, Track, Disk}
 use Rattle.fields.specs.declared.id.SectorId.{SectorId}
 use Rattle.fields.specs.declared.refusal.Refusal.TheVariants.{NoTransferRoom}
@@ -34,6 +34,8 @@ use Rattle.saves.proofs.Finds.{map_found}
 use Rattle.saves.proofs.Places.{save-found, save-only}
 use Rattle.saves.proofs.Feeding.{fed, byte_on, run-fed, partly, part-fed}
 use Rattle.saves.proofs.Demand.{drive-0, saved-inside}
+use Rattle.std.specs.Prelude.{Result, Ok}
+use Rattle.fields.specs.declared.refusal.Refusal.{Refusal}
 
 -- ---- what is handed out
 
@@ -107,7 +109,7 @@ module _ (room : ℕ) (told : Report) (bytes reply : List ℕ) where
       → ((run acted (send b ∷ []) g).end.world.front.unread ≡ bytes) × ((run acted (send b ∷ []) g).end.world.front.reply ≡ reply)
   unfolding run acted write_port report_of
   serves-them v g b e ok =
-      subst (λ (x : Result Sent). let y : Next Answer Stage = byte_on g x in
+      subst (λ (x : Result Sent Refusal). let y : Next Answer Stage = byte_on g x in
       granted (y.answer ∷ []) ≡ true → (y.then.world.front.unread ≡ bytes) × (y.then.world.front.reply ≡ reply))
       (sym e) (served v g b) ok
 
@@ -178,7 +180,7 @@ read_back a d code c1 eot gap dtl g es fs gs ready save made back began last non
     let eight : List ℕ = code ∷ c1 ∷ a.id.c ∷ a.id.h ∷ a.id.r ∷ a.id.n ∷ eot ∷ gap ∷ [] in
     let i : Inside = partly σ m a.cylinder x (saved_by a d) eight in
     let f = run-fed fs p eight began.sends began.grants in
-    let e : good q.world.inside ≡ good i
+    let e : Ok q.world.inside ≡ Ok i
     = sym f.inside ∙ ap (fed p.rooms eight) (saved-inside a d g es ready save made)
     ∙ part-fed p.rooms σ m a.cylinder x (saved_by a d) code ReadData back.reads (c1 ∷ a.id.c ∷ a.id.h ∷ a.id.r ∷ a.id.n ∷ eot ∷ gap ∷ []) (omega arith) in
     let inside_is : q.world.inside ≡ i = cc in

@@ -5,7 +5,6 @@ use Prim.Native.Nat.{ℕ}
 use mathlib.Core.List.{List, [], ◌∷◌, ◌++◌}
 use lib.ListN.{replicate}
 use Rattle.fields.specs.Capacities.{most_data, most_transfer}
-use Rattle.fields.specs.Refusals.{good}
 use Rattle.fields.specs.Model.{size_of, Track, Disk, total}
 use Rattle.fields.specs.declared.id.SectorId.{SectorId}
 use Rattle.tracks.specs.Rows.{ids_from}
@@ -14,7 +13,6 @@ use Rattle.store.specs.Search.{sector_at, match_at, sector_by_index, by_index, r
 use Rattle.store.specs.Store.{contents}
 use Rattle.store.specs.Fresh.{blanks, formatted}
 use Rattle.store.specs.Calls.{within, has_of}
-use Rattle.store.specs.declared.answer.Has.TheVariants.{Yes}
 use Rattle.disk.specs.Change.{change, saved, set_track}
 use Rattle.codes.specs.Table.{mask_rows, rows, command_by, command_of}
 use Rattle.registers.specs.Boxes.{rust_machine, Holds, Empty, Slot, new_world, named, taken, changed, all_changed, put_in, responded, silent, serves}
@@ -24,6 +22,7 @@ use Rattle.sending.specs.Machine.{command_if, command_byte, data_if, data_byte, 
 use Rattle.saves.specs.Events.{Answer, took, Run, run}
 use Rattle.saves.specs.Stages.{Stage, with_world, acted}
 use Rattle.saves.proofs.Witness.{send_all}
+use Rattle.std.specs.Prelude.{Ok, Some}
 
 -- ---- the disks
 
@@ -80,16 +79,16 @@ abbrev told_last : ℕ → ℕ → List Answer
 told_last place count = took (serves (record { place = place; count = count })) ∷ []
 
 pub record Thrice : Type 0 where
-  pub read : (sent_all (with (Holds (good thrice))) (reads 1)).answers ≡ still 8 ++ told_last 1 3
-  pub other : (sent_all (with (Holds (good thrice))) (reads 2)).answers ≡ still 8 ++ told_last 4 1
-  pub absent : (sent_all (with (Holds (good thrice))) (reads 7)).answers ≡ still 9
+  pub read : (sent_all (with (Holds (Ok thrice))) (reads 1)).answers ≡ still 8 ++ told_last 1 3
+  pub other : (sent_all (with (Holds (Ok thrice))) (reads 2)).answers ≡ still 8 ++ told_last 4 1
+  pub absent : (sent_all (with (Holds (Ok thrice))) (reads 7)).answers ≡ still 9
   pub no-disk : (sent_all (with Empty) (reads 1)).answers ≡ still 9
-  pub read-id : (sent_all (with (Holds (good thrice))) (0x4A ∷ 0 ∷ [])).answers ≡ still 2
-  pub write : (sent_all (with (Holds (good thrice))) (writes ++ filling 128)).answers ≡ (still 8 ++ told_last 1 3) ++ (still 127 ++ told_last 1 3)
-  pub formatted-one : (sent_all (left_by (with (Holds (good thrice))) formats) (reads 1)).answers ≡ still 8 ++ told_last 1 1
-  pub other-disk : (sent_all (swapped (Holds (good twice)) (left_by (with (Holds (good thrice))) (writes ++ filling 100))) (filling 28)).answers ≡ still 27 ++ told_last 2 2
-  pub disk-out : (sent_all (swapped Empty (left_by (with (Holds (good thrice))) (writes ++ filling 100))) (filling 28)).answers ≡ still 28
-  pub has : has_of (good thrice) 0 0 (number 1) ≡ Yes (record { place = 1; count = 3 })
+  pub read-id : (sent_all (with (Holds (Ok thrice))) (0x4A ∷ 0 ∷ [])).answers ≡ still 2
+  pub write : (sent_all (with (Holds (Ok thrice))) (writes ++ filling 128)).answers ≡ (still 8 ++ told_last 1 3) ++ (still 127 ++ told_last 1 3)
+  pub formatted-one : (sent_all (left_by (with (Holds (Ok thrice))) formats) (reads 1)).answers ≡ still 8 ++ told_last 1 1
+  pub other-disk : (sent_all (swapped (Holds (Ok twice)) (left_by (with (Holds (Ok thrice))) (writes ++ filling 100))) (filling 28)).answers ≡ still 27 ++ told_last 2 2
+  pub disk-out : (sent_all (swapped Empty (left_by (with (Holds (Ok thrice))) (writes ++ filling 100))) (filling 28)).answers ≡ still 28
+  pub has : has_of (Ok thrice) 0 0 (number 1) ≡ Ok (Some (record { place = 1; count = 3 }))
 
 pub thrice-told : Thrice
 unfolding run acted send_all change_disk new_world named taken changed all_changed put_in responded mask_rows rows command_by command_of seek_if missing start_at write_data write_reply save_at written_sector written_into id_given read_id lays_track format_at_once format_track obeyed command_if command_byte data_if data_byte byte_for sent done write_port report_of formatted ids_from blanks size_of sector_at match_at sector_by_index by_index find_from change saved set_track total run_from read_at contents served_as read_data within

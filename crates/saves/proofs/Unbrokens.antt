@@ -2,7 +2,6 @@
 use mathlib.Core.Path.{◌≡◌, refl, sym, subst, ◌∙◌}
 use mathlib.Core.List.{List, [], ◌∷◌}
 use mathlib.Core.Option.{Option, none, some}
-use Rattle.fields.specs.Refusals.{Result, refused, good}
 use Rattle.fields.specs.Model.{Disk, Each}
 use Rattle.registers.specs.Boxes.{Slot, Inside, Taking, Add, Hold, Change, Clear, MoveTo, Turn, Start, Finish, Sent, taken, changed, all_changed, put_in}
 use Rattle.registers.specs.Ports.{after_status, after_read, set_motor, change_disk}
@@ -11,6 +10,8 @@ use Rattle.saves.specs.Events.{Event, poll, read, send, ask, switch, swap, widen
 use Rattle.saves.specs.Stages.{Stage, acted, Unbroken, PutsUnbroken}
 use Rattle.saves.proofs.Feeding.{byte_on}
 use Rattle.saves.specs.Words.{in_drive}
+use Rattle.std.specs.Prelude.{Result, Ok, Err}
+use Rattle.fields.specs.declared.refusal.Refusal.{Refusal}
 
 abbrev slot_in : Inside → Slot
 slot_in i = i.drives.first.slot
@@ -41,10 +42,10 @@ unfolding put_in
 put-unbroken none i h = h
 put-unbroken (some d) i h = tt
 
-sent-unbroken : (g : Stage) (y : Result Sent) → Unbroken (in_drive g.world) → Unbroken (in_drive (byte_on g y).then.world)
+sent-unbroken : (g : Stage) (y : Result Sent Refusal) → Unbroken (in_drive g.world) → Unbroken (in_drive (byte_on g y).then.world)
 unfolding done
-sent-unbroken g (refused why) h = h
-sent-unbroken g (good y) h =
+sent-unbroken g (Err why) h = h
+sent-unbroken g (Ok y) h =
     let i : Inside = taken y.taking g.world.inside in
     put-unbroken y.effect.put (all_changed y.effect.changes i)
     (subst Unbroken (sym (all-slot y.effect.changes i ∙ taken-slot y.taking g.world.inside)) h)

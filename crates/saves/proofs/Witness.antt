@@ -9,7 +9,6 @@ use mathlib.Core.Option.{some}
 use lib.ListN.{length, take, replicate, length-replicate}
 use Rattle.fields.specs.Bytes.{with_bit}
 use Rattle.fields.specs.Capacities.{most_data, most_transfer}
-use Rattle.fields.specs.Refusals.{good}
 use Rattle.fields.specs.Model.{size_of, total}
 use Rattle.fields.proofs.Sizes.{size-2}
 use Rattle.tracks.specs.Rows.{ids_from}
@@ -29,10 +28,11 @@ use Rattle.saves.specs.Stages.{Stage, acted}
 use Rattle.saves.specs.Words.{in_drive, Ready, Address, Save, bytes_of, address_of, IsSave, saved_by, first_of, sent_in, Sends, Only, ReadsBack, read_bytes, reply_to, LosesNone, data_reads, given_in}
 use Rattle.saves.proofs.Demand.{save-touches, second-alone, either_order}
 use Rattle.saves.proofs.ReadBack.{read_back}
+use Rattle.std.specs.Prelude.{Ok}
 
 -- a new controller of either machine with a fresh disk in, and all the room that there can be
 abbrev pub start : Setting → Stage
-start σ = record { rooms = record { room = most_data; transfer = most_transfer }; world = change_disk (Holds (good fresh)) (new_world σ) }
+start σ = record { rooms = record { room = most_data; transfer = most_transfer }; world = change_disk (Holds (Ok fresh)) (new_world σ) }
 
 -- a save to cylinder 7: 512 bytes to a sector
 abbrev with : ℕ → ℕ → Save

@@ -1,7 +1,6 @@
 -- Sequences of calls on the machine.
 use Rattle.std.specs.Prelude.{ℕ, ◌+◌, min, List, length}
 use Rattle.fields.specs.Capacities.{most_transfer}
-use Rattle.fields.specs.Refusals.{Result, refused, good}
 use Rattle.store.specs.Store.{room_of, disk_of}
 use Rattle.registers.specs.Boxes.{Setting}
 use Rattle.registers.specs.Boxes.{Rooms, Slot, Empty, Holds, World, new_world, silent}
@@ -12,6 +11,8 @@ use Rattle.commands.specs.Commands.{ready}
 use Rattle.sending.specs.Machine.{write_port, report_of}
 use Rattle.saves.specs.Events.{Question, motor_on?, which_track?, disk_in?, Event, poll, read, send, ask, switch, swap, widen}
 use Rattle.saves.specs.Events.{Answer, showed, gave, took, said, stood, denied, Next}
+use Rattle.std.specs.Prelude.{Result, Ok, Err}
+use Rattle.fields.specs.declared.refusal.Refusal.{Refusal}
 
 -- the rooms that are lent, and the boxes
 pub record Stage : Type 0 where
@@ -27,9 +28,9 @@ abbrev pub with_world : World → Stage → Stage
 with_world w g = record { rooms = g.rooms; world = w }
 
 -- a byte sent was taken, and something is told, or refused, which leaves all as it was
-abbrev pub sent_on : Stage → Report → Result World → Next Answer Stage
-sent_on g told (refused why) = record { answer = denied why; then = g }
-sent_on g told (good w) = record { answer = took told; then = with_world w g }
+abbrev pub sent_on : Stage → Report → Result World Refusal → Next Answer Stage
+sent_on g told (Err why) = record { answer = denied why; then = g }
+sent_on g told (Ok w) = record { answer = took told; then = with_world w g }
 
 -- what the boxes tell
 unfoldable pub answer_to : Question → World → Answer
@@ -58,8 +59,8 @@ acted (widen y) g = record { answer = took silent; then = record { rooms = widen
 -- no store that breaks the layout is in the drive
 abbrev pub Unbroken : Slot → Type 0
 Unbroken Empty = Unit {0}
-Unbroken (Holds (refused why)) = ⊥
-Unbroken (Holds (good d)) = Unit {0}
+Unbroken (Holds (Err why)) = ⊥
+Unbroken (Holds (Ok d)) = Unit {0}
 
 -- a disk change puts in none, or one that its store holds; no other call puts one in
 unfoldable pub PutsUnbroken : Event → Type 0

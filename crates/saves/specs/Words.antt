@@ -2,7 +2,6 @@
 use Rattle.std.specs.Prelude.{◌≡◌, ℕ, suc, ◌+◌, ◌≤◌, true, List, [], ◌∷◌, ◌++◌, length}
 use Rattle.std.proofs.Math.Option.{Option, none, some}
 use Rattle.fields.specs.Bytes.{with_bit}
-use Rattle.fields.specs.Refusals.{good}
 use Rattle.fields.specs.Model.{size_of, Sector, Track, Disk}
 use Rattle.fields.specs.declared.id.SectorId.{SectorId}
 use Rattle.store.specs.Find.{nothing, found, find}
@@ -14,6 +13,7 @@ use Rattle.codes.specs.Table.{command_of}
 use Rattle.registers.specs.Ports.{after_status, after_read}
 use Rattle.codes.specs.Second.{u, drive_of, head_of}
 use Rattle.saves.specs.Events.{Event, poll, read, send, ask, switch, swap, widen, Answer, showed, gave, took, said, stood, denied, granted}
+use Rattle.std.specs.Prelude.{Ok}
 
 -- what is in drive 0
 abbrev pub in_drive : World → Slot
@@ -21,7 +21,7 @@ in_drive w = w.inside.drives.first.slot
 
 -- a disk is in drive 0, nothing is half sent, no write is in progress
 pub record Ready (w : World) (d : Disk) : Type 0 where
-  pub disk-in : in_drive w ≡ Holds (good d)
+  pub disk-in : in_drive w ≡ Holds (Ok d)
   pub nothing-sent : w.inside.command ≡ []
   pub no_write : w.inside.write ≡ none
 

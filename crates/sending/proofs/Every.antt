@@ -7,31 +7,32 @@ use mathlib.Core.Option.{Option, none, some}
 use lib.ListN.{length}
 use lib.Dec.{eqb}
 use borrow.Author.Tests.{eqb-true}
-use Rattle.fields.specs.Refusals.{Result, refused, good}
 use Rattle.fields.specs.Model.{Disk}
 use Rattle.codes.specs.declared.command.Command.{Command}
 use Rattle.codes.specs.Table.{command_of, bytes_for}
 use Rattle.registers.specs.Boxes.{Rooms, Inside, whole_of, Writing, named, holding, Taking, Add, Hold, Response, Stay, Effect, Sent}
 use Rattle.commands.specs.Commands.{byte, obeyed, written}
 use Rattle.sending.specs.Machine.{sends, clearing, command_if, command_byte, data_if, data_byte, byte_for, sent}
+use Rattle.std.specs.Prelude.{Result, Ok, Err}
+use Rattle.fields.specs.declared.refusal.Refusal.{Refusal}
 
 -- a property of what an effect shows and puts
 module _ (P : Response → Option Disk → Type 0) where
-  abbrev pub OfEffect : Result Effect → Type 0
-  OfEffect (refused why) = Unit {0}
-  OfEffect (good e) = P e.response e.put
+  abbrev pub OfEffect : Result Effect Refusal → Type 0
+  OfEffect (Err why) = Unit {0}
+  OfEffect (Ok e) = P e.response e.put
 
-  abbrev pub OfSent : Result Sent → Type 0
-  OfSent (refused why) = Unit {0}
-  OfSent (good x) = P x.effect.response x.effect.put
+  abbrev pub OfSent : Result Sent Refusal → Type 0
+  OfSent (Err why) = Unit {0}
+  OfSent (Ok x) = P x.effect.response x.effect.put
 
-  of-clearing : (e : Result Effect) → OfEffect e → OfEffect (clearing e)
-  of-clearing (refused why) q = tt
-  of-clearing (good e) q = q
+  of-clearing : (e : Result Effect Refusal) → OfEffect e → OfEffect (clearing e)
+  of-clearing (Err why) q = tt
+  of-clearing (Ok e) q = q
 
-  of-sends : (x : Taking) (e : Result Effect) → OfEffect e → OfSent (sends x e)
-  of-sends x (refused why) q = tt
-  of-sends x (good e) q = q
+  of-sends : (x : Taking) (e : Result Effect Refusal) → OfEffect e → OfSent (sends x e)
+  of-sends x (Err why) q = tt
+  of-sends x (Ok e) q = q
 
   -- of the command that this byte makes whole, while no write is in progress, and of every write
   module _ (s : Rooms) (i : Inside) (b : ℕ) (still : P Stay none) where

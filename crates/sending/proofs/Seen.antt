@@ -12,7 +12,7 @@ use lib.Dec.{eqb, ltb, leb}
 use borrow.Author.Tests.{ltb-true, ltb-false, leb-true}
 use Rattle.buffer.proofs.Overs.{over-front}
 use Rattle.buffer.specs.Over.{over}
-use Rattle.fields.specs.Refusals.{Result, refused, good, need, after}
+use Rattle.fields.specs.Refusals.{need, after}
 use Rattle.fields.specs.Capacities.{most_held}
 use Rattle.fields.specs.Model.{Sector, Disk, byte_count}
 use Rattle.fields.specs.declared.id.SectorId.{SectorId}
@@ -34,14 +34,12 @@ use Rattle.registers.specs.declared.regs.Pending.{Pending}
 use Rattle.registers.specs.declared.regs.Shape.{Shape}
 use Rattle.registers.specs.declared.regs.Seek.{Seek}
 use Rattle.registers.specs.declared.regs.Seek.TheVariants.{Idle, Running, Done}
-use Rattle.registers.specs.Boxes.{setting_of, Setting}
-use Rattle.registers.specs.Boxes.{Rooms, Slot, Holds, Drives, whole_of, Writing, Inside, fitted, named_if, named, silent, serves}
+use Rattle.registers.specs.Boxes.{setting_of, Setting, Rooms, Slot, Holds, Drives, whole_of, Writing, Inside, fitted, named_if, named, silent, serves}
 use Rattle.registers.specs.Boxes.{with_command, with_write, with_slot, holding_in}
 use Rattle.registers.specs.Boxes.{Taking, Add, Hold, Change, Clear, MoveTo, Turn, Start, Finish, Response, Stay, Reply, ReplyIfNone, Seeking, Interrupt, Serve, Effect, Sent}
 use Rattle.registers.specs.Boxes.{taken, changed, all_changed, put_in, with_reply, if_none, interrupted, responded}
 use Rattle.codes.specs.Table.{command_of, bytes_for}
 use Rattle.registers.specs.View.{rooms_of, slot_if, slot_of, drives_of, named_in, goal_of, writing_of, writing_if, inside_of, front_of, world_of, impossible, impossible_in}
-use Rattle.registers.specs.declared.regs.Flag.TheVariants as flag
 use Rattle.registers.specs.Calls.{disk_in}
 use Rattle.registers.specs.Settle.{declined, replied, pending_with, regs_taken, held_taken, regs_changed, regs_all, if_unread, interrupted_by, regs_responded, regs_of}
 use Rattle.registers.proofs.Numbers.{possible, possible-in, count-few, goal-kept, whole-most, taken-few}
@@ -54,6 +52,8 @@ use Rattle.sending.specs.Calls.{data_write}
 use Rattle.commands.proofs.Runs.{Unput, quiet-seek, quiet-invalid, quiet-id, quiet_write, unput-read}
 use Rattle.sending.proofs.Sends.{wrong-length, wrong-numbers, write-wrong, sent-right, sent-data, sent-command}
 use Rattle.sending.proofs.Every.{OfEffect, OfSent, of-sent}
+use Rattle.std.specs.Prelude.{Result, Ok, Err}
+use Rattle.fields.specs.declared.refusal.Refusal.{Refusal}
 
 -- ---- inside: taking a byte, and changes
 
@@ -194,12 +194,12 @@ response-inside (Serve bytes reply) r h slot = (refl, refl)
 module _ (r : Regs) (t d : List ℕ) where
   abbrev Lays : Option Disk → Type 0
   Lays none = Unit {0}
-  Lays (some y) = (r.drive.disk ≡ true) × (disk_of (over t 0 (table_of y)) (over d 0 (data_of y)) ≡ good y)
+  Lays (some y) = (r.drive.disk ≡ true) × (disk_of (over t 0 (table_of y)) (over d 0 (data_of y)) ≡ Ok y)
 
-  abbrev LaysE : Result Effect → Type 0
+  abbrev LaysE : Result Effect Refusal → Type 0
   LaysE = OfEffect (λ response put. Lays put)
 
-  abbrev LaysS : Result Sent → Type 0
+  abbrev LaysS : Result Sent Refusal → Type 0
   LaysS = OfSent (λ response put. Lays put)
 
   seen-slot : (put : Option Disk) (i : Inside) (f : Bool) → Lays put → f ≡ r.drive.disk → i.drives.first.slot ≡ slot_of r t d
@@ -208,29 +208,29 @@ module _ (r : Regs) (t d : List ℕ) where
   seen-slot none i f g e q = λ k. with_slot ((q ∙ ap (λ (v : Bool). slot_if v (disk_of t d)) (sym e)) k) i
   seen-slot (some y) i f g e q = ap (λ (s : Slot). with_slot s i) (held f (e ∙ g.0) g.1)
     where
-      held : (v : Bool) → v ≡ true → disk_of (over t 0 (table_of y)) (over d 0 (data_of y)) ≡ good y → Holds (good y) ≡ slot_if v (disk_of (over t 0 (table_of y)) (over d 0 (data_of y)))
+      held : (v : Bool) → v ≡ true → disk_of (over t 0 (table_of y)) (over d 0 (data_of y)) ≡ Ok y → Holds (Ok y) ≡ slot_if v (disk_of (over t 0 (table_of y)) (over d 0 (data_of y)))
       held true z w = ap Holds (sym w)
       held false z w = never (cc)
 
-  unput-lays : (e : Result Effect) → Unput e → LaysE e
-  unput-lays (refused why) q = tt
-  unput-lays (good e) q = subst Lays (sym q) tt
+  unput-lays : (e : Result Effect Refusal) → Unput e → LaysE e
+  unput-lays (Err why) q = tt
+  unput-lays (Ok e) q = subst Lays (sym q) tt
 
   -- a command that looks at the drive that it names finds no disk, a refusal, or the disk that the store holds
-  named-lays : (c1 : ℕ) (e : Result Effect) (F : Disk → Result Effect) → LaysE e → ((y : Disk) → r.drive.disk ≡ true → disk_of t d ≡ good y → LaysE (F y))
+  named-lays : (c1 : ℕ) (e : Result Effect Refusal) (F : Disk → Result Effect Refusal) → LaysE e → ((y : Disk) → r.drive.disk ≡ true → disk_of t d ≡ Ok y → LaysE (F y))
       → LaysE (when_ready (named_in c1 r t d).slot e F)
   unfolding named
   named-lays c1 e F p q = go (fitted c1) r.drive.disk refl (disk_of t d) refl
     where
-      go : (v f : Bool) → r.drive.disk ≡ f → (disk : Result Disk) → disk_of t d ≡ disk
+      go : (v f : Bool) → r.drive.disk ≡ f → (disk : Result Disk Refusal) → disk_of t d ≡ disk
           → LaysE (when_ready (named_if v (record { cylinder = r.drive.cylinder; slot = slot_if f disk })).slot e F)
       go false f h disk w = p
       go true false h disk w = p
-      go true true h (refused why) w = tt
-      go true true h (good y) w = q y h w
+      go true true h (Err why) w = tt
+      go true true h (Ok y) w = q y h w
 
   -- a track that is laid
-  track-lays : (x : List ℕ) (xs : List Change) (c1 c : ℕ) (z : Shape) (ids : List SectorId) (y : Disk) → r.drive.disk ≡ true → disk_of t d ≡ good y
+  track-lays : (x : List ℕ) (xs : List Change) (c1 c : ℕ) (z : Shape) (ids : List SectorId) (y : Disk) → r.drive.disk ≡ true → disk_of t d ≡ Ok y
       → LaysE (lays_track (rooms_of d x) xs c1 c z ids y)
   unfolding lays_track
   track-lays x xs c1 c z ids y h w = go (fitting (room_of d) New) refl
@@ -238,9 +238,9 @@ module _ (r : Regs) (t d : List ℕ) where
       New : Disk
       New = set_track (head_of c1) c (track_as c1 c z ids) y
 
-      go : (new : Result Disk) → fitting (room_of d) New ≡ new → LaysE (after new (λ v. puts silent xs v (format_reply c1 z.size)))
-      go (refused why) e = tt
-      go (good v) e = (h, format-accepted t d y w New v e)
+      go : (new : Result Disk Refusal) → fitting (room_of d) New ≡ new → LaysE (after new (λ v. puts silent xs v (format_reply c1 z.size)))
+      go (Err why) e = tt
+      go (Ok v) e = (h, format-accepted t d y w New v e)
 
   format-lays : (x l : List ℕ) → LaysE (format_track (setting_of r.setting) (rooms_of d x) l (named_in (byte l 1) r t d))
   unfolding format_track format_at_once
@@ -260,12 +260,12 @@ module _ (r : Regs) (t d : List ℕ) where
       New : Disk → Disk
       New y = saved (head_of c1) Cylinder id held y
 
-      put : (v : Bool) (m : Match) (y : Disk) → r.drive.disk ≡ true → disk_of t d ≡ good y → leb (byte_count (New y)) (room_of d) ≡ v
+      put : (v : Bool) (m : Match) (y : Disk) → r.drive.disk ≡ true → disk_of t d ≡ Ok y → leb (byte_count (New y)) (room_of d) ≡ v
           → LaysE (need v NoRoom (puts (serves m) (Finish ∷ []) (New y) (write_reply c1 id)))
       put true m y h e q = (h, save-accepted t d y e (head_of c1) Cylinder id held (leb-true _ _ q))
       put false m y h e q = tt
 
-      go : (y : Disk) → r.drive.disk ≡ true → disk_of t d ≡ good y → (m : Match) (s : Found Sector) → LaysE (save_at (rooms_of d x) c1 id m (New y) s)
+      go : (y : Disk) → r.drive.disk ≡ true → disk_of t d ≡ Ok y → (m : Match) (s : Found Sector) → LaysE (save_at (rooms_of d x) c1 id m (New y) s)
       go y h e m nothing = tt
       go y h e m (found k s) = put (leb (byte_count (New y)) (room_of d)) m y h e refl
 
@@ -300,13 +300,13 @@ module _ (r : Regs) (t d : List ℕ) where
 -- ---- a whole byte
 
 -- how a byte is taken
-abbrev Takes : Taking → Result Sent → Type 0
-Takes k (refused why) = Unit {0}
-Takes k (good s) = s.taking ≡ k
+abbrev Takes : Taking → Result Sent Refusal → Type 0
+Takes k (Err why) = Unit {0}
+Takes k (Ok s) = s.taking ≡ k
 
-sends-takes : (k : Taking) (e : Result Effect) → Takes k (sends k e)
-sends-takes k (refused why) = tt
-sends-takes k (good e) = refl
+sends-takes : (k : Taking) (e : Result Effect Refusal) → Takes k (sends k e)
+sends-takes k (Err why) = tt
+sends-takes k (Ok e) = refl
 
 command-takes : (x : Setting) (s : Rooms) (b : ℕ) (l : List ℕ) (d : Drives) (i : ℕ) → Takes (Add b) (command_byte x s b l d i)
 unfolding command_byte
@@ -317,10 +317,10 @@ unfolding data_byte
 data-takes s b w d = sends-takes (Hold b) (data_if (eqb (length w.held) (whole_of w.goal)) s w d)
 
 module _ (r : Regs) (b : ℕ) (h t d x : List ℕ) (ok : impossible_in x r ≡ false) (nine : length r.command ≡ 9) (seven : length r.reply ≡ 7) (held : length h ≡ most_held) where
-  seen-byte : (e : Result Sent) (k : Taking) → Fits k r h → Takes k e → LaysS r t d e → Sees r h t d x (left_of e r h t d x) (reported e) (after e (λ s. good (done (world_of r h t d x) s)))
+  seen-byte : (e : Result Sent Refusal) (k : Taking) → Fits k r h → Takes k e → LaysS r t d e → Sees r h t d x (left_of e r h t d x) (reported e) (after e (λ s. Ok (done (world_of r h t d x) s)))
   unfolding left_of regs_of done inside_of
-  seen-byte (refused why) k g q l = refl
-  seen-byte (good s) k g q l =
+  seen-byte (Err why) k g q l = refl
+  seen-byte (Ok s) k g q l =
       let tk : Taking = s.taking in
       let xs : List Change = s.effect.changes in
       let sh : Response = s.effect.response in
@@ -352,7 +352,7 @@ module _ (r : Regs) (b : ℕ) (h t d x : List ℕ) (ok : impossible_in x r ≡ f
   pub write-seen : Sees r h t d x (data_write r b h t d x) (report_of (rooms_of d x) (world_of r h t d x) b) (write_port (rooms_of d x) (world_of r h t d x) b)
   unfolding data_write
   write-seen =
-      subst (λ (z : Result Sent). Sees r h t d x (left_of z r h t d x) (report_of (rooms_of d x) (world_of r h t d x) b) (write_port (rooms_of d x) (world_of r h t d x) b)) (sent-right r b h t d x ok held) (seen-sent r.write.on refl)
+      subst (λ (z : Result Sent Refusal). Sees r h t d x (left_of z r h t d x) (report_of (rooms_of d x) (world_of r h t d x) b) (write_port (rooms_of d x) (world_of r h t d x) b)) (sent-right r b h t d x ok held) (seen-sent r.write.on refl)
 
 -- numbers that no controller has, and held bytes of another length, are refusal 1, and change nothing
 module _ (r : Regs) (b : ℕ) (h t d x : List ℕ) where
@@ -363,10 +363,10 @@ module _ (r : Regs) (b : ℕ) (h t d x : List ℕ) where
   write-unheld n = sym (write-wrong r b h t d x (declined BadController r) (wrong-length r h x n) refl)
 
 -- whether a disk is in, seen: whether there is one in the drive
-pub disk-told : (r : Regs) (h t d x : List ℕ) → impossible r ≡ false → disk_in r ≡ flag.Of (ready (world_of r h t d x).inside.drives.first.slot)
+pub disk-told : (r : Regs) (h t d x : List ℕ) → impossible r ≡ false → disk_in r ≡ Ok (ready (world_of r h t d x).inside.drives.first.slot)
 unfolding disk_in inside_of
-disk-told r h t d x ok = rw ok (ap flag.Of (is-in r.drive.disk (disk_of t d)))
+disk-told r h t d x ok = rw ok (ap Ok (is-in r.drive.disk (disk_of t d)))
   where
-    is-in : (f : Bool) (disk : Result Disk) → f ≡ ready (slot_if f disk)
+    is-in : (f : Bool) (disk : Result Disk Refusal) → f ≡ ready (slot_if f disk)
     is-in true disk = refl
     is-in false disk = refl

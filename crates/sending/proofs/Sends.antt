@@ -9,7 +9,6 @@ use lib.ListN.{length, get_or, set, take, length-append, length-take, length-set
 use lib.Seq.{get_or-take, take-suc-set, set-set, set-get_or, take_all}
 use lib.Dec.{eqb}
 use borrow.Author.Tests.{eq-eqb, ne_eqb}
-use Rattle.fields.specs.Refusals.{Result, refused, good}
 use Rattle.fields.specs.declared.refusal.Refusal.{Refusal}
 use Rattle.fields.specs.declared.refusal.Refusal.TheVariants.{BadController}
 use Rattle.fields.proofs.Tests.{never}
@@ -18,12 +17,8 @@ use Rattle.codes.specs.declared.command.Command.TheVariants.{Specify, SenseDrive
 use Rattle.registers.specs.declared.regs.Goal.{Goal}
 use Rattle.registers.specs.declared.regs.Regs.{Regs}
 use Rattle.registers.specs.declared.regs.Pending.{Pending}
-use Rattle.registers.specs.declared.regs.Receipt.{Receipt}
-use Rattle.registers.specs.declared.regs.Receipt.TheVariants as receipt
-use Rattle.registers.specs.declared.regs.Written.{Written}
 use Rattle.registers.specs.declared.regs.Report.{Report}
-use Rattle.registers.specs.Boxes.{setting_of, Setting}
-use Rattle.registers.specs.Boxes.{silent, Rooms, Drives, Named, named, whole_of, Inside, Add, Hold, Clear, Effect, Sent}
+use Rattle.registers.specs.Boxes.{setting_of, Setting, silent, Rooms, Drives, Named, named, whole_of, Inside, Add, Hold, Clear, Effect, Sent}
 use Rattle.codes.specs.Table.{command_of, bytes_for}
 use Rattle.commands.specs.Commands.{byte, ready, format_at_once, has_phase, format_if, format_track, obeyed}
 use Rattle.sending.specs.Machine.{sends, clearing, command_if, command_byte, data_if, data_byte, byte_for, sent}
@@ -33,6 +28,9 @@ use Rattle.commands.specs.Lent.{table_with, data_with, table_after, data_after, 
 use Rattle.sending.specs.Calls.{command_here, data_here, impossible_with, sent_to, data_write}
 use Rattle.commands.proofs.Runs.{still-response, Still, still-written}
 use Rattle.fields.specs.Capacities.{most_held}
+use Rattle.registers.proofs.Numbers.{whole-most}
+use Rattle.std.specs.Prelude.{Result, Ok, Err}
+use Rattle.registers.specs.declared.regs.Answered.{Answered}
 
 -- ---- a byte of a command
 
@@ -72,10 +70,10 @@ module _ (r : Regs) (b : ℕ) (h t d x : List ℕ) where
   to_left : Ran → Left
   to_left (ran a t' d' x') = left (kept r a) h t' d' x'
 
-  keep-sent : (e : Result Effect) → to_left (ran_of e (regs_changed Clear (regs_taken (Add b) r)) t d x) ≡ left_of (sends (Add b) (clearing e)) r h t d x
+  keep-sent : (e : Result Effect Refusal) → to_left (ran_of e (regs_changed Clear (regs_taken (Add b) r)) t d x) ≡ left_of (sends (Add b) (clearing e)) r h t d x
   unfolding to_left left_of regs_of regs_all
-  keep-sent (refused why) = refl
-  keep-sent (good e) = refl
+  keep-sent (Err why) = refl
+  keep-sent (Ok e) = refl
 
   module _ (few : r.count < 9) (long : length r.command ≡ 9) where
     abbrev Array : List ℕ
@@ -106,10 +104,10 @@ module _ (r : Regs) (b : ℕ) (h t d x : List ℕ) where
           let e : eqb (length All) (bytes_for k) ≡ false = ne_eqb _ _ (λ z. q (sym all-length ∙ z ∙ sym en)) in
           rw (command-is, e)
 
-      abbrev Obeyed : List ℕ → Result Effect
+      abbrev Obeyed : List ℕ → Result Effect Refusal
       Obeyed l = obeyed (setting_of r.setting) (rooms_of d x) k l (drives_of r t d) r.index
 
-      command-whole : r.count + 1 ≡ n → (a : Written) (t' d' x' : List ℕ)
+      command-whole : r.count + 1 ≡ n → (a : Answered Report) (t' d' x' : List ℕ)
           → ran a t' d' x' ≡ ran_of (Obeyed Array) (regs_changed Clear (regs_taken (Add b) r)) t d x
           → left (kept r a) h t' d' x' ≡ left_of (command_here r b t d x) r h t d x
       unfolding command_byte command_if to_left
@@ -121,15 +119,15 @@ module _ (r : Regs) (b : ℕ) (h t d x : List ℕ) where
           ∙ ap (λ (j : ℕ). Obeyed (take j Array)) (sym m)
           ∙ ap Obeyed (sym all_list) in
           rw (command-is, f)
-          (ap to_left (e ∙ ap (λ (y : Result Effect). ran_of y (regs_changed Clear (regs_taken (Add b) r)) t d x) g)
+          (ap to_left (e ∙ ap (λ (y : Result Effect Refusal). ran_of y (regs_changed Clear (regs_taken (Add b) r)) t d x) g)
           ∙ keep-sent (Obeyed All))
 
       -- the same, from the registers that the functions answered
-      pub command-from : (added cleared : Regs) (a a' : Written) (t' d' x' : List ℕ)
+      pub command-from : (added cleared : Regs) (a a' : Answered Report) (t' d' x' : List ℕ)
           → a' ≡ kept r a → added ≡ regs_taken (Add b) r → cleared ≡ regs_changed Clear added → added.count ≡ n
           → ran a t' d' x' ≡ ran_here k added.command cleared t d x → left a' h t' d' x' ≡ left_of (command_here r b t d x) r h t d x
       command-from added cleared a a' t' d' x' ek ea ec q e =
-          ap (λ (y : Written). left y h t' d' x') ek
+          ap (λ (y : Answered Report). left y h t' d' x') ek
           ∙ command-whole (sym (ap (λ (y : Regs). y.count) ea) ∙ q) a t' d' x'
           (e
           ∙ ap (λ (y : Regs). ran_here k added.command y t d x) ec
@@ -150,7 +148,7 @@ module _ (r : Regs) (b : ℕ) (h t d x : List ℕ) (room : r.write.taken < lengt
   whole_is : take (r.write.taken + 1) Held ≡ Whole
   whole_is = rw add-one (take-suc-set h r.write.taken b room)
 
-  pub data-part : (n : ℕ) (a : Written) → n ≡ whole_of (goal_of r.write) → (r.write.taken + 1 ≡ n → ⊥) → a ≡ accepted silent (regs_taken (Hold b) r)
+  pub data-part : (n : ℕ) (a : Answered Report) → n ≡ whole_of (goal_of r.write) → (r.write.taken + 1 ≡ n → ⊥) → a ≡ accepted silent (regs_taken (Hold b) r)
       → left a Held t d x ≡ left_of (data_here r b h t d x) r h t d x
   unfolding data_byte data_if left_of regs_of regs_all regs_responded
   data-part n a en ne ea =
@@ -158,50 +156,50 @@ module _ (r : Regs) (b : ℕ) (h t d x : List ℕ) (room : r.write.taken < lengt
       rw (e, ea)
 
   -- the end of a write, and where it is refused the held byte that was there
-  held_back : Receipt → List ℕ
-  held_back (receipt.Good y) = Held
-  held_back (receipt.Refused why) = set Held r.write.taken (get_or h r.write.taken 0)
+  held_back : Result Report Refusal → List ℕ
+  held_back (Ok y) = Held
+  held_back (Err why) = set Held r.write.taken (get_or h r.write.taken 0)
 
-  back_is : (e : Result Effect) → Still e → let a : Written = regs_of e (regs_taken (Hold b) r) in
-      left (kept r a) (held_back a.receipt) (table_after e t) (data_after e d) x ≡ left_of (sends (Hold b) e) r h t d x
+  back_is : (e : Result Effect Refusal) → Still e → let a : (Answered Report) = regs_of e (regs_taken (Hold b) r) in
+      left (kept r a) (held_back a.answer) (table_after e t) (data_after e d) x ≡ left_of (sends (Hold b) e) r h t d x
   unfolding held_back left_of regs_of
-  back_is (refused why) q =
+  back_is (Err why) q =
       ap (λ (l : List ℕ). left (declined why r) l t d x) (set-set h r.write.taken b (get_or h r.write.taken 0) ∙ set-get_or h r.write.taken 0)
-  back_is (good e) q =
-      ap (λ (y : List ℕ). left (regs_of (good e) (regs_taken (Hold b) r)) Held (table_with e.put t) (data_with e.put d) y) (still-response e.response x q)
+  back_is (Ok e) q =
+      ap (λ (y : List ℕ). left (regs_of (Ok e) (regs_taken (Hold b) r)) Held (table_with e.put t) (data_with e.put d) y) (still-response e.response x q)
 
-  module _ (n : ℕ) (a : Written) (t' d' : List ℕ) (en : n ≡ whole_of (goal_of r.write)) (eq : r.write.taken + 1 ≡ n) where
+  module _ (n : ℕ) (a : Answered Report) (t' d' : List ℕ) (en : n ≡ whole_of (goal_of r.write)) (eq : r.write.taken + 1 ≡ n) where
     -- what the end of a write promises of some registers
     abbrev Ended : List ℕ → Regs → Type 0
     Ended l y = Stores (written_here l y t d x) y t d a t' d'
 
     data-end : (l : List ℕ) → l ≡ Whole → Ended l (regs_taken (Hold b) r)
-        → left (kept r a) (held_back a.receipt) t' d' x ≡ left_of (data_here r b h t d x) r h t d x
+        → left (kept r a) (held_back a.answer) t' d' x ≡ left_of (data_here r b h t d x) r h t d x
     unfolding data_byte data_if
     data-end l el p =
         let f : eqb (length Whole) (whole_of (goal_of r.write)) ≡ true = eq-eqb _ _ (whole_length ∙ eq ∙ en) in
         let q = subst (λ (z : List ℕ). Ended z (regs_taken (Hold b) r)) el p in
-        let e : Result Effect = written_here Whole r t d x in
+        let e : Result Effect Refusal = written_here Whole r t d x in
         rw f
-        ((λ i. left (kept r (q.0 i)) (held_back (q.0 i).receipt) (q.1.0 i) (q.1.1 i) x)
+        ((λ i. left (kept r (q.0 i)) (held_back (q.0 i).answer) (q.1.0 i) (q.1.1 i) x)
         ∙ back_is e (still-written (goal_of r.write) (rooms_of d x) r.write.c1 Whole (named_in r.write.c1 r t d)))
 
     module _ (taken : Regs) (l : List ℕ) (et : taken ≡ regs_taken (Hold b) r) (el : l ≡ take (r.write.taken + 1) Held) where
-      pub data-good : (told : Report) → a.receipt ≡ receipt.Good told → Ended l taken → left a Held t' d' x ≡ left_of (data_here r b h t d x) r h t d x
+      pub data-good : (told : Report) → a.answer ≡ Ok told → Ended l taken → left a Held t' d' x ≡ left_of (data_here r b h t d x) r h t d x
       unfolding held_back
-      data-good told f q = sym (ap (λ (y : Receipt). left (kept_if y a r) (held_back y) t' d' x) f) ∙ data-end l (el ∙ whole_is) (subst (Ended l) et q)
+      data-good told f q = sym (ap (λ (y : Result Report Refusal). left (kept_if y a r) (held_back y) t' d' x) f) ∙ data-end l (el ∙ whole_is) (subst (Ended l) et q)
 
-      pub data-refused : (why : Refusal) (a' : Written) → a.receipt ≡ receipt.Refused why → a' ≡ declined why r → Ended l taken
+      pub data-refused : (why : Refusal) (a' : Answered Report) → a.answer ≡ Err why → a' ≡ declined why r → Ended l taken
           → left a' (set Held r.write.taken (get_or h r.write.taken 0)) t' d' x ≡ left_of (data_here r b h t d x) r h t d x
       unfolding held_back
       data-refused why a' f g q =
-          ap (λ (y : Written). left y (set Held r.write.taken (get_or h r.write.taken 0)) t' d' x) g
-          ∙ sym (ap (λ (y : Receipt). left (kept_if y a r) (held_back y) t' d' x) f)
+          ap (λ (y : Answered Report). left y (set Held r.write.taken (get_or h r.write.taken 0)) t' d' x) g
+          ∙ sym (ap (λ (y : Result Report Refusal). left (kept_if y a r) (held_back y) t' d' x) f)
           ∙ data-end l (el ∙ whole_is) (subst (Ended l) et q)
 
 -- ---- the end of a write, by what is written
 
-pub ended-into : (r : Regs) (held t d x : List ℕ) (g : Goal) → goal_of r.write ≡ g → (a : Written) (t' d' : List ℕ)
+pub ended-into : (r : Regs) (held t d x : List ℕ) (g : Goal) → goal_of r.write ≡ g → (a : Answered Report) (t' d' : List ℕ)
     → Stores (into_here g held r t d x) r t d a t' d' → Stores (written_here held r t d x) r t d a t' d'
 ended-into r held t d x g e a t' d' p = subst (λ (y : Goal). Stores (into_here y held r t d x) r t d a t' d') (sym e) p
 
@@ -227,7 +225,7 @@ module _ (r : Regs) (h x : List ℕ) where
 
 module _ (r : Regs) (b : ℕ) (h t d x : List ℕ) where
   -- then every lent byte is as it came
-  pub write-wrong : (a : Written) → impossible_with h x r ≡ true → a ≡ declined BadController r → left a h t d x ≡ data_write r b h t d x
+  pub write-wrong : (a : Answered Report) → impossible_with h x r ≡ true → a ≡ declined BadController r → left a h t d x ≡ data_write r b h t d x
   unfolding data_write sent_to left_of
   write-wrong a e f = rw (e, f)
 
@@ -259,11 +257,11 @@ module _ (r : Regs) (b : ℕ) (h t d x : List ℕ) where
   -- what is left of a byte, where the numbers are possible
   pub left-data : (y : Left) → impossible_in x r ≡ false → length h ≡ most_held → r.write.on ≡ true → y ≡ left_of (data_here r b h t d x) r h t d x → y ≡ data_write r b h t d x
   unfolding data_write
-  left-data y e l q f = f ∙ ap (λ (z : Result Sent). left_of z r h t d x) (sent-data q ∙ sent-right e l)
+  left-data y e l q f = f ∙ ap (λ (z : Result Sent Refusal). left_of z r h t d x) (sent-data q ∙ sent-right e l)
 
   pub left-command : (y : Left) → impossible_in x r ≡ false → length h ≡ most_held → r.write.on ≡ false → y ≡ left_of (command_here r b t d x) r h t d x → y ≡ data_write r b h t d x
   unfolding data_write
-  left-command y e l q f = f ∙ ap (λ (z : Result Sent). left_of z r h t d x) (sent-command q ∙ sent-right e l)
+  left-command y e l q f = f ∙ ap (λ (z : Result Sent Refusal). left_of z r h t d x) (sent-command q ∙ sent-right e l)
 
 -- ---- places after a byte is stored
 
@@ -271,11 +269,15 @@ module _ (h : List ℕ) (i b : ℕ) (g : i < length h) where
   pub set_room : i + 1 ≤ length (set h i b)
   set_room = simp length-set (omega arith)
 
-  pub set-count : i + 1 ≡ length (take (i + 1) (set h i b))
-  set-count = simp (length-take, length-set) (omega arith)
+  pub set_count : i + 1 ≡ length (take (i + 1) (set h i b))
+  set_count = simp (length-take, length-set) (omega arith)
 
-  pub set-few : i < most_held → length (take (i + 1) (set h i b)) ≤ most_held
-  set-few few = simp (length-take, length-set) (omega arith)
+  pub set_few : i < most_held → length (take (i + 1) (set h i b)) ≤ most_held
+  set_few few = simp (length-take, length-set) (omega arith)
 
-  pub set-in : i < length (set h i b)
-  set-in = simp length-set (omega arith)
+  pub set_in : i < length (set h i b)
+  set_in = simp length-set (omega arith)
+
+-- a write of which a byte is to come has a place for it
+pub in_held : (h : List ℕ) (p : Pending) → (length h ≡ most_held) × (p.taken < whole_of (goal_of p)) → (p.taken < length h) × (p.taken < most_held)
+in_held h p e = let w = whole-most (goal_of p) in (omega arith, omega arith)

@@ -7,7 +7,7 @@ use mathlib.Core.Logic.{◌⊎◌, inl, inr}
 use mathlib.Core.Option.{none}
 use lib.ListN.{length}
 use lib.Dec.{leb}
-use Rattle.fields.specs.Refusals.{Result, refused, good, need, after}
+use Rattle.fields.specs.Refusals.{need, after}
 use Rattle.fields.specs.Model.{Sector, Disk}
 use Rattle.fields.specs.declared.refusal.Refusal.TheVariants.{BadController, NoTransferRoom}
 use Rattle.fields.proofs.Tests.{never}
@@ -21,7 +21,6 @@ use Rattle.codes.specs.Table.{command_of, bytes_for}
 use Rattle.registers.specs.declared.regs.Regs.{Regs}
 use Rattle.registers.specs.declared.regs.Seek.{Seek}
 use Rattle.registers.specs.declared.regs.Seek.TheVariants.{Idle, Running, Done}
-use Rattle.registers.specs.declared.regs.Written.{Written}
 use Rattle.registers.specs.Boxes.{Rooms, Slot, Empty, Holds, Inside, Front, World, Named, named, serves, interrupted, responded}
 use Rattle.registers.specs.Boxes.{Response, Stay, Reply, ReplyIfNone, Seeking, Interrupt, Serve, Effect, Sent}
 use Rattle.registers.specs.Ports.{set_motor, change_disk}
@@ -35,6 +34,10 @@ use Rattle.sending.specs.Reads.{EndsRead, Refilled}
 use Rattle.sending.specs.Machine.{sent, done, write_port}
 use Rattle.sending.specs.Calls.{impossible_with, sent_to, data_write}
 use Rattle.sending.proofs.Every.{OfEffect, OfSent, of-this}
+use Rattle.std.specs.Prelude.{Result, Ok, Err}
+use Rattle.fields.specs.declared.refusal.Refusal.{Refusal}
+use Rattle.registers.specs.declared.regs.Answered.{Answered}
+use Rattle.registers.specs.declared.regs.Report.{Report}
 
 module _ (s : Rooms) (i : Inside) (b : ℕ) where
   -- data are served only by such a byte
@@ -46,7 +49,7 @@ module _ (s : Rooms) (i : Inside) (b : ℕ) where
   Serves (Interrupt c y) = Unit {0}
   Serves (Serve bytes reply) = EndsRead i b bytes
 
-  abbrev ServesE : Result Effect → Type 0
+  abbrev ServesE : Result Effect Refusal → Type 0
   ServesE = OfEffect (λ response put. Serves response)
 
   still-serves : (x : Response) → StillS x → Serves x
@@ -57,9 +60,9 @@ module _ (s : Rooms) (i : Inside) (b : ℕ) where
   still-serves (Interrupt c y) q = tt
   still-serves (Serve bytes reply) q = absurd q
 
-  none-served : (e : Result Effect) → Still e → ServesE e
-  none-served (refused why) q = tt
-  none-served (good e) q = still-serves e.response q
+  none-served : (e : Result Effect Refusal) → Still e → ServesE e
+  none-served (Err why) q = tt
+  none-served (Ok e) q = still-serves e.response q
 
   abbrev Line : List ℕ
   Line = i.command ++ (b ∷ [])
@@ -75,23 +78,23 @@ module _ (s : Rooms) (i : Inside) (b : ℕ) where
         Read : Disk → List Sector
         Read y = read_at y (head_of (byte Line 1)) Drive.cylinder (id_of Line) (byte Line 6)
 
-        roomy : (v : Bool) (y : Disk) → Drive.slot ≡ Holds (good y) → (x : Sector) (xs : List Sector) → Read y ≡ x ∷ xs → (m : Match) (reply : List ℕ)
+        roomy : (v : Bool) (y : Disk) → Drive.slot ≡ Holds (Ok y) → (x : Sector) (xs : List Sector) → Read y ≡ x ∷ xs → (m : Match) (reply : List ℕ)
             → ServesE (need v NoTransferRoom (tells (serves m) [] (Serve (contents (x ∷ xs)) reply)))
         roomy true y d x xs e m reply =
             record { command = Line; is-command = refl; no_write = n; reads = k; whole = w; disk = y; in-drive = d; first = x; rest = xs; found = e; theirs = refl }
         roomy false y d x xs e m reply = tt
 
-        served : (y : Disk) → Drive.slot ≡ Holds (good y) → (m : Match) (ss : List Sector) → Read y ≡ ss → ServesE (served_as s deleted Line m ss)
+        served : (y : Disk) → Drive.slot ≡ Holds (Ok y) → (m : Match) (ss : List Sector) → Read y ≡ ss → ServesE (served_as s deleted Line m ss)
         served y d m [] e = tt
         served y d m (x ∷ xs) e = roomy (leb (length (contents (x ∷ xs))) s.transfer) y d x xs e m _
 
         First : Disk → Match
         First y = match_at y (head_of (byte Line 1)) Drive.cylinder (id_of Line)
 
-        in-slot : (z : Slot) → Drive.slot ≡ z → (e : Result Effect) → ServesE e → ServesE (when_ready z e (λ y. served_as s deleted Line (First y) (Read y)))
+        in-slot : (z : Slot) → Drive.slot ≡ z → (e : Result Effect Refusal) → ServesE e → ServesE (when_ready z e (λ y. served_as s deleted Line (First y) (Read y)))
         in-slot Empty d e q = q
-        in-slot (Holds (refused why)) d e q = tt
-        in-slot (Holds (good y)) d e q = served y d (First y) (Read y) refl
+        in-slot (Holds (Err why)) d e q = tt
+        in-slot (Holds (Ok y)) d e q = served y d (First y) (Read y) refl
 
     command-serves : (k : Command) → command_of (byte Line 0) ≡ k → ServesE (obeyed i.setting s k Line i.drives i.index)
     unfolding obeyed
@@ -131,15 +134,15 @@ module _ (s : Rooms) (i : Inside) (b : ℕ) where
   front-stays (Serve bytes reply) f q = inr q
 
 -- A byte that is taken leaves the unread data as they are, or it ends a read that finds a sector, and they are the contents of what it finds.
-pub unread-stays : (s : Rooms) (w v : World) (b : ℕ) → write_port s w b ≡ good v
+pub unread-stays : (s : Rooms) (w v : World) (b : ℕ) → write_port s w b ≡ Ok v
     → (v.front.unread ≡ w.front.unread) ⊎ EndsRead w.inside b v.front.unread
 unfolding write_port done
 unread-stays s w v b e = by (sent s w.inside b) (sent-serves s w.inside b) e
   where
-    by : (x : Result Sent) → OfSent (λ response put. Serves s w.inside b response) x → after x (λ y. good (done w y)) ≡ good v
+    by : (x : Result Sent Refusal) → OfSent (λ response put. Serves s w.inside b response) x → after x (λ y. Ok (done w y)) ≡ Ok v
         → (v.front.unread ≡ w.front.unread) ⊎ EndsRead w.inside b v.front.unread
-    by (refused why) q e = never (cc)
-    by (good y) q e =
+    by (Err why) q e = never (cc)
+    by (Ok y) q e =
         let z : done w y ≡ v = cc in
         subst (λ (u : World). (u.front.unread ≡ w.front.unread) ⊎ EndsRead w.inside b u.front.unread) z
         (front-stays s w.inside b y.effect.response w.front q)
@@ -169,21 +172,21 @@ module _ (r : Regs) (b : ℕ) (h t d x : List ℕ) where
   buffer-stays (Serve bytes reply) q = inr record { bytes = bytes; ends = q; laid = refl }
 
   -- A byte sent leaves the transfer buffer byte for byte as it came, refused or not, or it ends a read that finds a sector.
-  pub transfer-stays : (a : Written) (h' t' d' x' : List ℕ) → data_write r b h t d x ≡ left a h' t' d' x' → (x' ≡ x) ⊎ Refilled I b x x'
+  pub transfer-stays : (a : Answered Report) (h' t' d' x' : List ℕ) → data_write r b h t d x ≡ left a h' t' d' x' → (x' ≡ x) ⊎ Refilled I b x x'
   unfolding data_write sent_to left_of
   transfer-stays a h' t' d' x' = asked (impossible_with h x r)
     where
-      Stays : Result Sent → Type 0
+      Stays : Result Sent Refusal → Type 0
       Stays y = left_of y r h t d x ≡ left a h' t' d' x' → (x' ≡ x) ⊎ Refilled I b x x'
 
-      by : (y : Result Sent) → OfSent (λ response put. Serves (rooms_of d x) I b response) y → Stays y
-      by (refused why) q e = let z : x ≡ x' = cc in inl (sym z)
-      by (good y) q e =
+      by : (y : Result Sent Refusal) → OfSent (λ response put. Serves (rooms_of d x) I b response) y → Stays y
+      by (Err why) q e = let z : x ≡ x' = cc in inl (sym z)
+      by (Ok y) q e =
           let z : transfer_with y.effect.response x ≡ x' = cc in
           subst (λ (u : List ℕ). (u ≡ x) ⊎ Refilled I b x u) z (buffer-stays y.effect.response q)
 
       asked : (v : Bool) → Stays (need (not v) BadController (sent (rooms_of d x) I b))
-      asked true = by (refused BadController) tt
+      asked true = by (Err BadController) tt
       asked false = by (sent (rooms_of d x) I b) (sent-serves (rooms_of d x) I b)
 
 -- Neither call on motor or disk is lent the transfer buffer: what is then seen in front is what was.

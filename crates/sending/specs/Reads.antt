@@ -1,8 +1,7 @@
 -- The byte that ends a read which finds a sector: the only one that touches data which were read before.
-use Rattle.std.specs.Prelude.{◌≡◌, ℕ, List, [], ◌∷◌, ◌++◌, ◌⊎◌, length}
+use Rattle.std.specs.Prelude.{◌≡◌, ℕ, List, [], ◌∷◌, ◌++◌, ◌⊎◌, length, Ok}
 use Rattle.std.proofs.Math.Option.{none}
 use Rattle.buffer.specs.Over.{over}
-use Rattle.fields.specs.Refusals.{good}
 use Rattle.fields.specs.Model.{Sector, Disk}
 use Rattle.store.specs.Search.{read_at}
 use Rattle.store.specs.Store.{contents}
@@ -23,7 +22,7 @@ pub record EndsRead (i : Inside) (b : ℕ) (bytes : List ℕ) : Type 0 where
   pub whole : length command ≡ bytes_for (command_of (byte command 0))
   -- the disk in the drive that it names, and the sectors that are found on it
   pub disk : Disk
-  pub in-drive : (named (byte command 1) i.drives).slot ≡ Holds (good disk)
+  pub in-drive : (named (byte command 1) i.drives).slot ≡ Holds (Ok disk)
   pub first : Sector
   pub rest : List Sector
   pub found : read_at disk (head_of (byte command 1)) (named (byte command 1) i.drives).cylinder (id_of command) (byte command 6) ≡ first ∷ rest

@@ -1,14 +1,14 @@
 -- The sessions that 01 marks P ("Sessions to check"), as one table. The others are run by the program `ports`.
-use Rattle.std.specs.Prelude.{ℕ, ◌-◌, Bool, true, false, List, [], ◌∷◌, ◌++◌, length, replicate, eqb}
+use Rattle.std.specs.Prelude.{ℕ, ◌-◌, Bool, true, false, List, [], ◌∷◌, ◌++◌, length, replicate, eqb, Result, Ok, Err}
 use Rattle.fields.specs.Capacities.{most_data, most_transfer}
-use Rattle.fields.specs.Refusals.{Result, refused, good, number_of}
+use Rattle.fields.specs.Refusals.{number_of}
 use Rattle.fields.specs.Model.{size_of}
 use Rattle.image.specs.Dsk.{Dsk, dsk_of}
 use Rattle.store.specs.Fresh.{fresh}
-use Rattle.registers.specs.Boxes.{Setting}
-use Rattle.registers.specs.Boxes.{Rooms, rust_machine, sheet_machine, Slot, Empty, Holds, World, new_world}
+use Rattle.registers.specs.Boxes.{Setting, Rooms, rust_machine, sheet_machine, Slot, Empty, Holds, World, new_world}
 use Rattle.registers.specs.Ports.{status, after_status, port_byte, after_read, change_disk}
 use Rattle.sending.specs.Machine.{write_port}
+use Rattle.fields.specs.declared.refusal.Refusal.{Refusal}
 
 -- a call: a byte sent, a status read and what it shows, a data-port read and what it gives, the disk taken out
 pub data Call : Type 0 where
@@ -31,19 +31,19 @@ ample = record { room = most_data; transfer = most_transfer }
 -- whether the calls answer what they are said to, and none is refused
 unfoldable pub plays : List Call → World → Bool
 plays [] w = true
-plays (enters b ∷ cs) w = elim (write_port ample w b) [ refused why ↦ false | good v ↦ plays cs v ]
+plays (enters b ∷ cs) w = elim (write_port ample w b) [ Err why ↦ false | Ok v ↦ plays cs v ]
 plays (shows b ∷ cs) w = elim (eqb (status w) b) [ true ↦ plays cs (after_status w) | false ↦ false ]
 plays (gives b ∷ cs) w = elim (eqb (port_byte w) b) [ true ↦ plays cs (after_read w) | false ↦ false ]
 plays (goes_out ∷ cs) w = plays cs (change_disk Empty w)
 
 -- whether an image is refused with a number, or loaded with so many tracks
-unfoldable pub is_refused : Result Dsk → ℕ → Bool
-is_refused (refused why) n = eqb (number_of why) n
-is_refused (good d) n = false
+unfoldable pub is_refused : Result Dsk Refusal → ℕ → Bool
+is_refused (Err why) n = eqb (number_of why) n
+is_refused (Ok d) n = false
 
-unfoldable pub has_tracks : Result Dsk → ℕ → Bool
-has_tracks (refused why) n = false
-has_tracks (good d) n = eqb (length d.disk) n
+unfoldable pub has_tracks : Result Dsk Refusal → ℕ → Bool
+has_tracks (Err why) n = false
+has_tracks (Ok d) n = eqb (length d.disk) n
 
 -- whether a case is as it says, and all of them
 unfoldable pub holds : Case → Bool
@@ -67,7 +67,7 @@ give (b ∷ bs) = gives b ∷ give bs
 
 -- the drive with a fresh disk; `MV - CPC` and zeros behind it, so many bytes in all
 abbrev pub fresh_in : Slot
-fresh_in = Holds (good fresh)
+fresh_in = Holds (Ok fresh)
 
 unfoldable pub normal : ℕ → List ℕ
 normal n = 0x4D ∷ 0x56 ∷ 0x20 ∷ 0x2D ∷ 0x20 ∷ 0x43 ∷ 0x50 ∷ 0x43 ∷ replicate (n - 8) 0

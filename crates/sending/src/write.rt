@@ -9,9 +9,8 @@ ghost use Rattle.sending.specs.Calls.{command_here, data_here, data_write};
 
 use codes::{St0, bytes_for, command_of, head_of};
 use commands::{finish_format, run_cmd};
-use disk::Saved;
 use fields::{HELD, Refusal, SectorId, St1};
-use registers::{Goal, Receipt, Regs, Written};
+use registers::{Answered, Goal, Regs, Report};
 
 // The last byte of a sector is held: the reply, and the sector in the store.
 fn finish_sector(
@@ -20,7 +19,7 @@ fn finish_sector(
     held: &[u8],
     table: &mut [u8],
     bytes: &mut [u8],
-) -> Written
+) -> Answered<Report>
     requires { length held.now ≤ most_held }
     ensures { (x : List ℕ) → Stores (into_here (IntoSector id) held.now regs table.old bytes.old x)
         regs table.old bytes.old result table.new bytes.new }
@@ -34,36 +33,40 @@ fn finish_sector(
         return r.done();
     }
     match disk::save(table, bytes, head_of(c1), d.cylinder, id, held) {
-        Saved::Refused(why) => regs.refused(why),
-        Saved::Missing => r.done(),
-        Saved::Good(sector) => r.found(sector),
+        Err(why) => regs.refused(why),
+        Ok(None) => r.done(),
+        Ok(Some(sector)) => r.found(sector),
     }
 }
 
 // The last byte of a write is held, be it of a sector or of a Format.
-fn finish_write(regs: Regs, held: &[u8], table: &mut [u8], bytes: &mut [u8]) -> Written
+fn finish_write(regs: Regs, held: &[u8], table: &mut [u8], bytes: &mut [u8]) -> Answered<Report>
     requires { length held.now ≤ most_held }
     ensures { (x : List ℕ) → Stores (written_here held.now regs table.old bytes.old x)
         regs table.old bytes.old result table.new bytes.new }
 {
-    let p = regs.write;
-    match p.goal() {
+    match regs.write.goal() {
         Goal::IntoSector(id) => finish_sector(regs, id, held, table, bytes),
         Goal::IntoTrack(shape) => finish_format(regs, shape, held, table, bytes),
     }
 }
 
 // A byte of a write in progress: the last one has it saved.
-fn data_byte(regs: Regs, b: u8, held: &mut [u8], table: &mut [u8], bytes: &mut [u8]) -> Written
+#[tactic(auto, using(crate::proofs::Sends::in_held, crate::proofs::Sends::set_room, crate::proofs::Sends::set_count, crate::proofs::Sends::set_few, crate::proofs::Sends::set_in))]
+fn data_byte(
+    regs: Regs,
+    b: u8,
+    held: &mut [u8],
+    table: &mut [u8],
+    bytes: &mut [u8],
+) -> Answered<Report>
     requires { (length held.old ≡ most_held) × (regs.write.taken < whole_of (goal_of regs.write)) }
     ensures { (x : List ℕ) → left result held.new table.new bytes.new x
         ≡ left_of (data_here regs b held.old table.old bytes.old x)
         regs held.old table.old bytes.old x }
 {
-    let p = regs.write;
-    let goal = p.goal();
-    let whole = goal.whole();
-    let at = p.taken as usize;
+    let whole = regs.write.goal().whole();
+    let at = regs.write.taken as usize;
     let was = held[at];
     held[at] = b;
     let r = regs.holds(b);
@@ -72,10 +75,9 @@ fn data_byte(regs: Regs, b: u8, held: &mut [u8], table: &mut [u8], bytes: &mut [
         return r.done();
     }
     let a = finish_write(r, &held[..end], table, bytes);
-    let receipt = a.receipt;
-    match receipt {
-        Receipt::Good(_) => a,
-        Receipt::Refused(why) => {
+    match a.answer {
+        Ok(_) => a,
+        Err(why) => {
             held[at] = was;
             regs.refused(why)
         }
@@ -89,19 +91,18 @@ fn maybe_run_cmd(
     table: &mut [u8],
     bytes: &mut [u8],
     transfer: &mut [u8],
-) -> Written
+) -> Answered<Report>
     requires { regs.count < 9 }
     ensures { (h : List ℕ) → left result h table.new bytes.new transfer.new
         ≡ left_of (command_here regs b table.old bytes.old transfer.old)
         regs h table.old bytes.old transfer.old }
 {
     let r = regs.added(b);
-    let command = r.command;
-    let which = command_of(command[0]);
+    let which = command_of(r.command[0]);
     if r.count != bytes_for(which) {
         return r.done();
     }
-    regs.kept(run_cmd(r.cleared(), which, command, table, bytes, transfer))
+    regs.kept(run_cmd(r.cleared(), which, r.command, table, bytes, transfer))
 }
 
 // A byte sent: one of a write in progress, or else of a command. 1 for held bytes of another length, or numbers that no controller has.
@@ -112,14 +113,11 @@ pub fn write_cmd(
     table: &mut [u8],
     bytes: &mut [u8],
     transfer: &mut [u8],
-) -> Written
+) -> Answered<Report>
     ensures { left result held.new table.new bytes.new transfer.new
         ≡ data_write regs b held.old table.old bytes.old transfer.old }
 {
-    if held.len() != HELD {
-        return regs.refused(Refusal::BadController);
-    }
-    if regs.impossible_in(transfer) {
+    if held.len() != HELD || regs.impossible_in(transfer) {
         return regs.refused(Refusal::BadController);
     }
     if regs.write.on {

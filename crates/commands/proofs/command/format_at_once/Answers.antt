@@ -10,15 +10,15 @@ returns-then-not-d c =
     let q = format-none _ _ _ _ _ c.named-d.ensures x (not-true c.named-d.result.disk c.if-not-d.true) in
     (c.done.ensures ∙ simp (c.not_ready.ensures, c.head_of.ensures) q.0, q.1)
 
-pub returns-in-Refused : goal.returns-in-Refused
-returns-in-Refused c =
+pub returns-in-Err : goal.returns-in-Err
+returns-in-Err c =
     λ x.
-    let q = format-ran _ _ _ _ _ c.named-d.ensures x _ _ _ _ (not-false c.named-d.result.disk c.if-not-d.false) c.in-Refused.is c.lay_numbered.ensures in
+    let q = format-ran _ _ _ _ _ c.named-d.ensures x _ _ _ _ (not-false c.named-d.result.disk c.if-not-d.false) c.in-Err.is c.lay_numbered.ensures in
     (c.refused.ensures ∙ q.0, q.1)
 
-pub returns-in-Good : goal.returns-in-Good
+pub returns-in-Ok : goal.returns-in-Ok
 unfolding regs_all
-returns-in-Good c =
+returns-in-Ok c =
     λ x.
-    let q = format-ran _ _ _ _ _ c.named-d.ensures x _ _ _ _ (not-false c.named-d.result.disk c.if-not-d.false) c.in-Good.is c.lay_numbered.ensures in
-    (c.done-in-Good.ensures ∙ simp c.format_reply.ensures q.0, q.1)
+    let q = format-ran _ _ _ _ _ c.named-d.ensures x _ _ _ _ (not-false c.named-d.result.disk c.if-not-d.false) c.in-Ok.is c.lay_numbered.ensures in
+    (c.done-in-Ok.ensures ∙ simp c.format_reply.ensures q.0, q.1)

@@ -1,6 +1,5 @@
 use mathlib.Core.Path.{◌≡◌, ap, ◌∙◌}
 use lib.ListN.{length, get_or}
-use Rattle.registers.specs.declared.regs.Written.{Written}
 use Rattle.registers.specs.declared.regs.Regs.{Regs}
 use Rattle.registers.specs.Settle.{accepted}
 use Rattle.registers.specs.Boxes.{silent}
@@ -9,10 +8,12 @@ use Rattle.commands.specs.Lent.{left}
 use Rattle.sending.proofs.Sends.{command-part, command-from}
 use borrow.Author.Rules.{rules}
 use Rattle.sending.proofs.write.maybe_run_cmd.Goals as goal
+use Rattle.registers.specs.declared.regs.Answered.{Answered}
+use Rattle.registers.specs.declared.regs.Report.{Report}
 
 pub returns-then-r-bytes_for : goal.returns-then-r-bytes_for
 returns-then-r-bytes_for c =
-    λ h. ap (λ (a : Written). left a h c.args.table.now c.args.bytes.now c.args.transfer.now)
+    λ h. ap (λ (a : Answered Report). left a h c.args.table.now c.args.bytes.now c.args.transfer.now)
     (c.done.ensures ∙ ap (accepted silent) c.added-r.ensures)
     ∙ command-part c.args.regs c.args.b h c.args.table.now c.args.bytes.now c.args.transfer.now c.requires (let known : length c.args.regs.command ≡ 9 = search rules in known) c.command_of-which.result
     c.bytes_for.result (c.command_of-which.ensures ∙ ap (λ (y : Regs). command_of (get_or y.command 0 0)) c.added-r.ensures) c.bytes_for.ensures
