@@ -2,74 +2,33 @@
 use mathlib.Core.Path.{◌≡◌, refl, sym, ap, ◌∙◌}
 use Prim.Native.Nat.{ℕ, ◌-◌, ◌%◌, ◌≤◌}
 use native.Mathlib.Omega.{arith}
-use mathlib.Core.Bool.{Bool, true, false, not}
 use mathlib.Core.List.{List, ◌++◌, append-nil}
 use lib.ListN.{length, set, take, drop, replicate, drop_of_length-le, length-drop, take-append-drop}
 use lib.Seq.{take_all, drop_at, length-take-le}
 use borrow.Rule.Slice.PartMut.{put_mid, mid_of}
-use borrow.Author.Tests.{eq-eqb, ne_eqb, not-true, not-false}
-use Rattle.buffer.proofs.Overs.{over-front}
-use Rattle.buffer.specs.Over.{over}
+use borrow.Author.Tests.{eq-eqb, ne_eqb}
 use Rattle.fields.specs.Capacities.{most_data}
-use Rattle.fields.specs.Refusals.{Result, refused, good}
 use Rattle.fields.specs.declared.id.SectorId.{SectorId}
 use Rattle.fields.specs.declared.refusal.Refusal.{Refusal}
 use Rattle.fields.specs.declared.refusal.Refusal.TheVariants.{BadController}
 use Rattle.fields.proofs.Tests.{never}
-use Rattle.store.specs.Spots.{place_of}
+use Rattle.store.specs.Spots.{place_of, part}
 use Rattle.store.specs.declared.answer.Match.{Match}
-use Rattle.store.specs.declared.find.Place.{Place}
-use Rattle.store.specs.declared.find.Place.TheVariants as place
 use Rattle.store.proofs.Checks.{room_in}
 use Rattle.store.proofs.Founds.{part-within}
 use Rattle.registers.specs.declared.regs.Regs.{Regs}
-use Rattle.registers.specs.declared.regs.Receipt.{Receipt}
-use Rattle.registers.specs.declared.regs.Receipt.TheVariants as receipt
-use Rattle.registers.specs.declared.regs.Written.{Written}
 use Rattle.registers.specs.Boxes.{Sent}
 use Rattle.registers.specs.Settle.{regs_of}
 use Rattle.commands.specs.Lent.{left, left_of}
 use Rattle.sending.specs.Calls.{sent_to, data_write}
 use Rattle.floppy.specs.Calls.{new_floppy}
-use Rattle.layout.specs.Layout.{numbers_length, controller_length, numbers_for, floppy_bytes, regs_at, held_at, formed, regs_in}
+use Rattle.layout.specs.Layout.{numbers_length, controller_length, numbers_for, floppy_bytes, held_at, regs_in}
 use Rattle.words.specs.Words.{refusal_word, receipt_word}
-use Rattle.host.specs.Calls.{asked_of, Answered, answered, answered_of, relaid, new_on, sending, if_taken, written_on, posted_on, write_on, part_word, part_on}
-use Rattle.layout.proofs.Images.{formed-long}
-
--- ---- bytes that a controller has, and others
-
-module _ (l : List ℕ) (v : Bool) (e : v ≡ formed l) where
-  -- a test that has failed
-  module _ (n : not v ≡ true) where
-    pub bad : regs_in l ≡ refused BadController
-    unfolding regs_in
-    bad = rw (sym e ∙ not-true v n)
-
-    pub asked-bad : (w : ℕ) (f : Regs → ℕ) → w ≡ refusal_word BadController → w ≡ asked_of (regs_in l) f
-    asked-bad w f q = rw bad q
-
-    pub answered-bad : (w : ℕ) (f : Regs → Answered) → w ≡ refusal_word BadController → answered w l ≡ answered_of l (regs_in l) f
-    answered-bad w f q = rw bad (ap (λ (z : ℕ). answered z l) q)
-
-    pub sent-bad : (w : ℕ) (t d x : List ℕ) (b : ℕ) → w ≡ refusal_word BadController → sending w l t d x ≡ write_on l t d x b
-    unfolding write_on
-    sent-bad w t d x b q = rw bad (ap (λ (z : ℕ). sending z l t d x) q)
-
-  -- one that has passed
-  module _ (n : not v ≡ false) where
-    pub here-long : length l ≡ controller_length
-    here-long = formed-long l (sym e ∙ not-false v n)
-
-    pub well : regs_in l ≡ good (regs_at l)
-    unfolding regs_in
-    well = rw (sym e ∙ not-false v n)
-
-    module _ (g : Regs) (q : g ≡ regs_at l) where
-      pub asked-good : (w : ℕ) (f : Regs → ℕ) → w ≡ f g → w ≡ asked_of (regs_in l) f
-      asked-good w f s = rw well (s ∙ ap f q)
-
-      pub answered-good : (a : Answered) (f : Regs → Answered) → a ≡ f g → a ≡ answered_of l (regs_in l) f
-      answered-good a f s = rw well (s ∙ ap f q)
+use Rattle.host.specs.Calls.{answered, relaid, new_on, sending, if_taken, written_on, posted_on, write_on, part_word, part_on}
+use Rattle.std.specs.Prelude.{Result, Ok, Err, Option}
+use Rattle.store.specs.declared.find.Place.{Place}
+use Rattle.registers.specs.declared.regs.Report.{Report}
+use Rattle.registers.specs.declared.regs.Answered.{Answered as WithRegs}
 
 -- ---- a new controller
 
@@ -82,12 +41,10 @@ zeros-with : (k : ℕ) → set (replicate controller_length 0) 42 (k % 2) ≡ fl
 unfolding numbers_for new_floppy
 zeros-with k = refl
 
-pub new-good : (k : ℕ) (l m : List ℕ) → length l ≡ controller_length → m ≡ over l 0 (replicate controller_length 0) → answered 0 (set m 42 (k % 2)) ≡ new_on k l
+pub new-good : (k : ℕ) (l m : List ℕ) → length l ≡ controller_length → m ≡ replicate (length l) 0 → answered 0 (set m 42 (k % 2)) ≡ new_on k l
 unfolding new_on
 new-good k l m h e =
-    let zeros : List ℕ = replicate controller_length 0 in
-    let all = ap (λ (z : List ℕ). zeros ++ z) (drop_of_length-le l {i = controller_length} (omega (arith, h))) ∙ append-nil zeros in
-    rw (eq-eqb _ _ h) (ap (λ (z : List ℕ). answered 0 (set z 42 (k % 2))) (e ∙ over-front l zeros ∙ all) ∙ ap (answered 0) (zeros-with k))
+    rw (eq-eqb _ _ h) (ap (λ (z : List ℕ). answered 0 (set z 42 (k % 2))) (e ∙ ap (λ (n : ℕ). replicate n 0) h) ∙ ap (answered 0) (zeros-with k))
 
 -- ---- a byte sent: the held bytes are the part behind the numbers
 
@@ -100,11 +57,11 @@ put_is l h e =
     ∙ ap (λ (z : List ℕ). take numbers_length l ++ z) (append-nil h)
 
 -- a refused byte leaves the held bytes
-refused-held : (y : Result Sent) (r : Regs) (h t d x : List ℕ) (a : Written) (h' t' d' x' : List ℕ) (why : Refusal)
-    → left a h' t' d' x' ≡ left_of y r h t d x → a.receipt ≡ receipt.Refused why → h' ≡ h
+refused-held : (y : Result Sent Refusal) (r : Regs) (h t d x : List ℕ) (a : WithRegs Report) (h' t' d' x' : List ℕ) (why : Refusal)
+    → left a h' t' d' x' ≡ left_of y r h t d x → a.answer ≡ Err why → h' ≡ h
 unfolding left_of regs_of
-refused-held (refused w) r h t d x a h' t' d' x' why e q = cc
-refused-held (good s) r h t d x a h' t' d' x' why e q = never (cc)
+refused-held (Err w) r h t d x a h' t' d' x' why e q = cc
+refused-held (Ok s) r h t d x a h' t' d' x' why e q = never (cc)
 
 -- the bytes with other held bytes in place
 module _ (l h' : List ℕ) (long : length l ≡ controller_length) where
@@ -117,41 +74,46 @@ module _ (l h' : List ℕ) (long : length l ≡ controller_length) where
   pub put_back : h' ≡ held_at l → Put ≡ l
   put_back e = put_is l h' long ∙ ap (λ (z : List ℕ). take numbers_length l ++ z) e ∙ take-append-drop numbers_length l
 
-module _ (l t d x : List ℕ) (b : ℕ) (a : Written) (h' t' d' x' : List ℕ) (w : ℕ) (m : List ℕ) (long : length l ≡ controller_length) where
+module _ (l t d x : List ℕ) (b : ℕ) (a : WithRegs Report) (h' t' d' x' : List ℕ) (w : ℕ) (m : List ℕ) (long : length l ≡ controller_length) where
   abbrev Laid : List ℕ
   Laid = Put l h' long
 
   -- what is then in the bytes, by the answer
-  taken-bytes : (z : Receipt) (r : Regs) → ((why : Refusal) → z ≡ receipt.Refused why → h' ≡ held_at l)
+  taken-bytes : (z : Result Report Refusal) (r : Regs) → ((why : Refusal) → z ≡ Err why → h' ≡ held_at l)
       → if_taken z (relaid Laid r) Laid ≡ if_taken z (numbers_for r h') l
-  taken-bytes (receipt.Good z) r k = ap (numbers_for r) (held-put l h' long)
-  taken-bytes (receipt.Refused why) r k = put_back l h' long (k why refl)
+  taken-bytes (Ok z) r k = ap (numbers_for r) (held-put l h' long)
+  taken-bytes (Err why) r k = put_back l h' long (k why refl)
 
-  settled : ((why : Refusal) → a.receipt ≡ receipt.Refused why → h' ≡ held_at l) → answered w m ≡ written_on Laid a
+  settled : ((why : Refusal) → a.answer ≡ Err why → h' ≡ held_at l) → answered w m ≡ written_on Laid a
       → sending w m t' d' x' ≡ posted_on l (left a h' t' d' x')
   settled k s =
-      let p : w ≡ receipt_word a.receipt = cc in
-      let q : m ≡ if_taken a.receipt (relaid Laid a.regs) Laid = cc in
-      λ i. sending (p i) ((q ∙ taken-bytes a.receipt a.regs k) i) t' d' x'
+      let p : w ≡ receipt_word a.answer = cc in
+      let q : m ≡ if_taken a.answer (relaid Laid a.regs) Laid = cc in
+      λ i. sending (p i) ((q ∙ taken-bytes a.answer a.regs k) i) t' d' x'
 
-  module _ (v : Bool) (e : v ≡ formed l) (n : not v ≡ false) (g : Regs) (f : g ≡ regs_at l)
-      (o : left a h' t' d' x' ≡ data_write g b (mid_of numbers_length (length l - numbers_length) l) t d x) (s : answered w m ≡ written_on Laid a) where
-    same : left a h' t' d' x' ≡ data_write (regs_at l) b (held_at l) t d x
-    same = o ∙ (λ i. data_write (f i) b (mid-is l i) t d x)
+  module _ (g : Regs) (f : regs_in l ≡ Ok g) (o : left a h' t' d' x' ≡ data_write g b (mid_of numbers_length (length l - numbers_length) l) t d x)
+      (s : answered w m ≡ written_on Laid a) where
+    same : left a h' t' d' x' ≡ data_write g b (held_at l) t d x
+    same = o ∙ ap (λ (z : List ℕ). data_write g b z t d x) (mid-is l)
 
     pub sent-good : sending w m t' d' x' ≡ write_on l t d x b
     unfolding write_on
     sent-good =
-        rw (well l v e n)
-        (settled (λ why q. refused-held (sent_to (regs_at l) b (held_at l) t d x) (regs_at l) (held_at l) t d x a h' t' d' x' why (unfold data_write in same) q) s
+        rw f
+        (settled (λ why q. refused-held (sent_to g b (held_at l) t d x) g (held_at l) t d x a h' t' d' x' why (unfold data_write in same) q) s
         ∙ ap (posted_on l) same)
+
+-- bytes that no controller has
+pub sent-bad : (l t d x : List ℕ) (b w : ℕ) (why : Refusal) → regs_in l ≡ Err why → w ≡ refusal_word why → sending w l t d x ≡ write_on l t d x b
+unfolding write_on
+sent-bad l t d x b w why e q = rw e (ap (λ (z : ℕ). sending z l t d x) q)
 
 -- ---- where a sector stands
 
-module _ (t b : List ℕ) (side cylinder : ℕ) (id : SectorId) (r : Place) (l : r ≡ place_of t b side cylinder id) where
-  pub part-word : (p : Place) → r ≡ p → part_word p ≡ part_on t b side cylinder id
+module _ (t b : List ℕ) (side cylinder : ℕ) (id : SectorId) (r : Result (Option Place) Refusal) (l : r ≡ place_of t b side cylinder id) where
+  pub part-word : (p : Result (Option Place) Refusal) → r ≡ p → part_word p ≡ part_on t b side cylinder id
   unfolding part_on
   part-word p e = ap part_word (sym e ∙ l)
 
-  pub part-few : (m : Match) (row from to end : ℕ) → r ≡ place.Part m row from to end → (from ≤ to) × (to ≤ most_data)
+  pub part-few : (m : Match) (row from to end : ℕ) → r ≡ part m row from to end → (from ≤ to) × (to ≤ most_data)
   part-few m row from to end e = omega (arith, part-within t b side cylinder id r l m row from to end e, room_in b)

@@ -8,7 +8,6 @@ use lib.ListN.{length}
 use lib.Dec.{leb}
 use borrow.Author.Tests.{eq-eqb, le-leb}
 use Rattle.fields.specs.Capacities.{most_held}
-use Rattle.fields.specs.Refusals.{Result, refused, good}
 use Rattle.registers.specs.declared.regs.Regs.{Regs}
 use Rattle.registers.specs.declared.regs.Seek.{Seek}
 use Rattle.registers.specs.declared.regs.Seek.TheVariants.{Idle, Running, Done}
@@ -24,6 +23,8 @@ use Rattle.layout.specs.Layout.{controller_length, flag_byte, seek_byte, numbers
 use Rattle.words.specs.Words.{byte_word, flag_word}
 use Rattle.host.specs.Calls.{motor_on, track_on, disk_on, setting_on, told_on, switched_on, set_motor_on, set_disk_on, status_on, read_on, posted_on, write_on, shown_word, changed_word, wrote_word}
 use Rattle.layout.proofs.Inverse.{regs-back}
+use Rattle.std.specs.Prelude.{Result, Ok, Err}
+use Rattle.fields.specs.declared.refusal.Refusal.{Refusal}
 
 -- ---- the bytes of a controller are formed
 
@@ -43,9 +44,9 @@ module _ (f : Floppy) (fits : Fitting f.regs) (long : length f.held ≡ most_hel
       let n : length (numbers_for f.regs f.held) ≡ controller_length = omega (arith, long) in
       rw (eq-eqb _ _ n, flag-few f.regs.motor, flag-few f.regs.write.on, seek-few f.regs.drive.seek, flag-few f.regs.drive.disk, le-leb f.regs.setting 1 fits.setting-fits, flag-few f.regs.write.track)
 
-  image-in : regs_in (floppy_bytes f) ≡ good f.regs
+  image-in : regs_in (floppy_bytes f) ≡ Ok f.regs
   unfolding regs_in
-  image-in = rw image-formed (ap good (regs-back f.regs f.held fits))
+  image-in = rw image-formed (ap Ok (regs-back f.regs f.held fits))
 
   -- ---- calls that ask
 
@@ -97,10 +98,10 @@ module _ (f : Floppy) (fits : Fitting f.regs) (long : length f.held ≡ most_hel
 
   -- ---- a byte sent
 
-  left-same : (y : Result Sent) (t d x : List ℕ) → posted_on (floppy_bytes f) (left_of y f.regs f.held t d x) ≡ wrote_word (wrote_as (left_of y f.regs f.held t d x))
+  left-same : (y : Result Sent Refusal) (t d x : List ℕ) → posted_on (floppy_bytes f) (left_of y f.regs f.held t d x) ≡ wrote_word (wrote_as (left_of y f.regs f.held t d x))
   unfolding left_of regs_of
-  left-same (refused why) t d x = refl
-  left-same (good s) t d x = refl
+  left-same (Err why) t d x = refl
+  left-same (Ok s) t d x = refl
 
   pub write_same : (t d x : List ℕ) (b : ℕ) → write_on (floppy_bytes f) t d x b ≡ wrote_word (write_call f b t d x)
   unfolding write_on data_write numbers_for

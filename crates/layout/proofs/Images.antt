@@ -1,18 +1,20 @@
 -- A controller as bytes: which numbers stand where, and which bytes a controller has.
 use mathlib.Core.Path.{◌≡◌, refl, ap, ◌∙◌}
-use Prim.Native.Nat.{ℕ, ◌≤◌}
+use Prim.Native.Nat.{ℕ, zero, suc, ◌+◌, ◌≤◌}
 use native.Mathlib.Omega.{arith}
 use mathlib.Core.Bool.{true}
-use mathlib.Core.List.{List, [], ◌++◌}
-use lib.ListN.{length, drop}
-use lib.Dec.{leb}
-use borrow.Author.Tests.{eq-eqb, eqb-true, le-leb}
+use mathlib.Core.List.{List, [], ◌∷◌, ◌++◌}
+use lib.ListN.{length, take, drop}
+use lib.Seq.{drop-cons}
+use borrow.Author.Tests.{eqb-true}
 use Rattle.buffer.specs.Over.{over}
 use Rattle.buffer.proofs.Overs.{over-over, over-front}
 use Rattle.fields.specs.Bytes.{byte_at}
-use Rattle.fields.proofs.Tests.{and-fst}
+use Rattle.fields.proofs.Tests.{and-fst, need-good}
+use Rattle.fields.specs.declared.refusal.Refusal.TheVariants.{BadController}
 use Rattle.registers.specs.declared.regs.Regs.{Regs}
-use Rattle.layout.specs.Layout.{controller_length, command_for, reading_for, state_for, numbers_for, held_at, formed}
+use Rattle.std.specs.Prelude.{Ok}
+use Rattle.layout.specs.Layout.{controller_length, part_for, command_for, reading_for, state_for, numbers_for, held_at, formed, regs_in}
 
 -- ---- bytes as registers
 
@@ -32,13 +34,19 @@ laid-parts l l₁ l₂ l₃ x y z r p q s e f g =
     let v : l₂ ≡ over l 0 (a ++ b) = f ∙ (λ i. over (u i) 17 (q i)) ∙ over-over l 0 a b 17 refl (omega arith) in
     g ∙ (λ i. over (v i) 28 (s i)) ∙ over-over l 0 (a ++ b) (state_for r []) 28 refl (omega arith) ∙ laid-over (a ++ b ++ state_for r []) l r refl
 
--- ---- bytes that a controller has, and others
+-- so many bytes from a place on, one by one
+pub part-is : (n k : ℕ) (x : List ℕ) → k + n ≤ length x → take n (drop k x) ≡ part_for n x k []
+part-is zero k x h = refl
+part-is (suc n) k x h =
+    let e : k + 1 ≡ suc k = omega arith in
+    rw (drop-cons x k 0 (omega (arith, h)), e) (ap (λ (z : List ℕ). byte_at x k ∷ z) (part-is n (suc k) x (omega (arith, h))))
 
-pub formed-all : (l : List ℕ) → length l ≡ controller_length → byte_at l 28 ≤ 1 → byte_at l 31 ≤ 1 → byte_at l 40 ≤ 2 → byte_at l 41 ≤ 1 → byte_at l 42 ≤ 1
-    → leb (byte_at l 43) 1 ≡ formed l
-unfolding formed
-formed-all l h a b c d x = rw (eq-eqb _ _ h, le-leb _ _ a, le-leb _ _ b, le-leb _ _ c, le-leb _ _ d, le-leb _ _ x)
+-- ---- bytes that a controller has, and others
 
 pub formed-long : (l : List ℕ) → formed l ≡ true → length l ≡ controller_length
 unfolding formed
 formed-long l e = eqb-true _ _ (and-fst _ _ e)
+
+pub regs-long : (l : List ℕ) (r : Regs) → regs_in l ≡ Ok r → length l ≡ controller_length
+unfolding regs_in
+regs-long l r e = formed-long l (need-good (formed l) BadController _ r e).0

@@ -1,8 +1,8 @@
 -- The controller as bytes: 44 bytes of numbers, then the 1,024 held bytes of a write. docs/HOST.md has the same as a table.
-use Rattle.std.specs.Prelude.{◌≡◌, ℕ, zero, suc, ◌+◌, ◌/◌, ◌%◌, ◌≤◌, ◌<◌, Bool, true, false, not, ◌&&◌, List, [], ◌∷◌, length, drop, eqb, leb}
+use Rattle.std.specs.Prelude.{◌≡◌, ℕ, zero, suc, ◌+◌, ◌/◌, ◌%◌, ◌≤◌, ◌<◌, Bool, true, false, not, ◌&&◌, List, [], ◌∷◌, length, drop, eqb, leb, Result, Ok}
 use Rattle.fields.specs.Bytes.{byte_at, number_at}
 use Rattle.fields.specs.Capacities.{most_held}
-use Rattle.fields.specs.Refusals.{Result, good, need}
+use Rattle.fields.specs.Refusals.{need}
 use Rattle.fields.specs.declared.refusal.Refusal.TheVariants.{BadController}
 use Rattle.registers.specs.declared.regs.Regs.{Regs}
 use Rattle.registers.specs.declared.regs.Pending.{Pending}
@@ -10,6 +10,7 @@ use Rattle.registers.specs.declared.regs.Drive.{Drive}
 use Rattle.registers.specs.declared.regs.Seek.{Seek}
 use Rattle.registers.specs.declared.regs.Seek.TheVariants.{Idle, Running, Done}
 use Rattle.floppy.specs.declared.Floppy.{Floppy}
+use Rattle.fields.specs.declared.refusal.Refusal.{Refusal}
 
 -- how many bytes the numbers take, and the whole controller
 abbrev pub numbers_length : ℕ
@@ -132,8 +133,8 @@ formed l =
     && leb (byte_at l 43) 1)))))
 
 -- the registers that are in these bytes; 1 where no controller has them
-unfoldable pub regs_in : List ℕ → Result Regs
-regs_in l = need (formed l) BadController (good (regs_at l))
+unfoldable pub regs_in : List ℕ → Result Regs Refusal
+regs_in l = need (formed l) BadController (Ok (regs_at l))
 
 -- registers whose numbers fit the fields of their types, as those of every controller do
 pub record Fitting (r : Regs) : Type 0 where

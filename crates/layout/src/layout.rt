@@ -2,9 +2,9 @@
 ghost use Rattle.std.specs.Prelude.{◌≡◌, ◌+◌, ◌≤◌, [], length};
 ghost use Rattle.fields.specs.Bytes.{number_at};
 ghost use Rattle.layout.specs.Layout.{controller_length, flag_byte, seek_byte, part_for, command_for, reading_for, state_for, numbers_for};
-ghost use Rattle.layout.specs.Layout.{flag_at, seek_at, write_at, drive_at, regs_at, held_at, formed};
+ghost use Rattle.layout.specs.Layout.{flag_at, seek_at, write_at, drive_at, regs_at, held_at, formed, regs_in};
 
-use fields::{HELD, word_at};
+use fields::{HELD, Refusal, word_at};
 use registers::{Drive, Pending, Regs, Seek, Target};
 
 // How many bytes the numbers take; the held bytes stand behind them.
@@ -24,19 +24,17 @@ pub fn flag_at(b: u8) -> bool
 pub fn flag_byte(f: bool) -> u8
     ensures { result ≡ flag_byte f }
 {
-    if f { 1 } else { 0 }
+    u8::from(f)
 }
 
 pub fn seek_at(b: u8) -> Seek
     ensures { result ≡ seek_at b }
 {
-    if b == 1 {
-        return Seek::Running;
+    match b {
+        1 => Seek::Running,
+        2 => Seek::Done,
+        _ => Seek::Idle,
     }
-    if b == 2 {
-        return Seek::Done;
-    }
-    Seek::Idle
 }
 
 pub fn seek_byte(s: Seek) -> u8
@@ -49,7 +47,8 @@ pub fn seek_byte(s: Seek) -> u8
     }
 }
 
-// The number in four bytes from a place, the lowest first.
+// The number in four bytes from a place, the lowest first. Numbers are read byte by byte: every port call goes through
+// this, and the compiled code is sensitive to how it is done (docs/SPEED.md). They are written likewise below, in the order of `numbers_for`.
 fn long_at(c: &[u8], at: usize) -> u32
     requires { at + 4 ≤ length c.now }
     ensures { result ≡ number_at 4 c.now at }
@@ -61,57 +60,40 @@ fn long_at(c: &[u8], at: usize) -> u32
 pub fn formed(c: &[u8]) -> bool
     ensures { result ≡ formed c.now }
 {
-    if c.len() != LENGTH {
-        return false;
-    }
-    if 1 < c[28] {
-        return false;
-    }
-    if 1 < c[31] {
-        return false;
-    }
-    if 2 < c[40] {
-        return false;
-    }
-    if 1 < c[41] {
-        return false;
-    }
-    if 1 < c[42] {
-        return false;
-    }
-    c[43] <= 1
+    c.len() == LENGTH
+        && c[28] <= 1
+        && c[31] <= 1
+        && c[40] <= 2
+        && c[41] <= 1
+        && c[42] <= 1
+        && c[43] <= 1
+}
+
+// So many bytes from a place.
+fn bytes_at<const N: usize>(c: &[u8], at: usize) -> [u8; N]
+    requires { at + N ≤ length c.now }
+    ensures { result ≡ part_for N c.now at [] }
+{
+    let mut bytes = [0; N];
+    bytes.copy_from_slice(&c[at..at + N]);
+    bytes
 }
 
 // The parts of the registers that are in these bytes.
-fn command_at(c: &[u8]) -> [u8; 9]
-    requires { length c.now ≡ controller_length }
-    ensures { result ≡ part_for 9 c.now 0 [] }
-{
-    [c[0], c[1], c[2], c[3], c[4], c[5], c[6], c[7], c[8]]
-}
-
-fn reply_at(c: &[u8]) -> [u8; 7]
-    requires { length c.now ≡ controller_length }
-    ensures { result ≡ part_for 7 c.now 10 [] }
-{
-    [c[10], c[11], c[12], c[13], c[14], c[15], c[16]]
-}
-
 fn write_at(c: &[u8]) -> Pending
     requires { length c.now ≡ controller_length }
     ensures { result ≡ write_at c.now }
 {
-    let target = Target {
-        one: c[33],
-        two: c[34],
-        three: c[35],
-        four: c[36],
-    };
     Pending {
         on: flag_at(c[31]),
         c1: c[32],
         track: flag_at(c[43]),
-        target,
+        target: Target {
+            one: c[33],
+            two: c[34],
+            three: c[35],
+            four: c[36],
+        },
         taken: word_at(c, 37) as u16,
     }
 }
@@ -132,14 +114,10 @@ pub fn decode(c: &[u8]) -> Regs
     requires { length c.now ≡ controller_length }
     ensures { result ≡ regs_at c.now }
 {
-    let command = command_at(c);
-    let reply = reply_at(c);
-    let write = write_at(c);
-    let drive = drive_at(c);
     Regs {
-        command,
+        command: bytes_at(c, 0),
         count: c[9],
-        reply,
+        reply: bytes_at(c, 10),
         place: c[17],
         fill: c[18],
         from: long_at(c, 19),
@@ -147,8 +125,8 @@ pub fn decode(c: &[u8]) -> Regs
         lost: c[27],
         motor: flag_at(c[28]),
         index: word_at(c, 29) as u16,
-        write,
-        drive,
+        write: write_at(c),
+        drive: drive_at(c),
         setting: c[42],
     }
 }
@@ -193,7 +171,6 @@ fn state_bytes(r: Regs) -> [u8; 16]
     let d = p.target;
     let t = p.taken;
     let v = r.drive;
-    let s = v.seek;
     [
         flag_byte(r.motor),
         (i % 256) as u8,
@@ -207,11 +184,21 @@ fn state_bytes(r: Regs) -> [u8; 16]
         (t % 256) as u8,
         (t / 256 % 256) as u8,
         v.cylinder,
-        seek_byte(s),
+        seek_byte(v.seek),
         flag_byte(v.disk),
         r.setting,
         flag_byte(p.track),
     ]
+}
+
+// The registers that are in these bytes. 1 where no controller has them.
+pub fn regs_in(c: &[u8]) -> Result<Regs, Refusal>
+    ensures { result ≡ regs_in c.now }
+{
+    if !formed(c) {
+        return Err(Refusal::BadController);
+    }
+    Ok(decode(c))
 }
 
 // Writes the registers into the bytes, part behind part; the held bytes stay.
@@ -219,10 +206,7 @@ pub fn encode(r: Regs, c: &mut [u8])
     requires { length c.old ≡ controller_length }
     ensures { c.new ≡ numbers_for r (held_at c.old) }
 {
-    let command = command_bytes(r);
-    let reading = reading_bytes(r);
-    let state = state_bytes(r);
-    buffer::copy_in(c, 0, &command);
-    buffer::copy_in(c, 17, &reading);
-    buffer::copy_in(c, 28, &state);
+    buffer::copy_in(c, 0, &command_bytes(r));
+    buffer::copy_in(c, 17, &reading_bytes(r));
+    buffer::copy_in(c, 28, &state_bytes(r));
 }

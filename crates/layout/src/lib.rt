@@ -3,7 +3,9 @@
 
 mod layout;
 
-pub use layout::{LENGTH, NUMBERS, SETTING, flag_at, flag_byte, formed, seek_at, seek_byte};
+pub use layout::{
+    LENGTH, NUMBERS, SETTING, flag_at, flag_byte, formed, regs_in, seek_at, seek_byte,
+};
 
 // For the crate above only: they have a `requires`.
 pub use layout::{decode, encode};

@@ -7,7 +7,6 @@ use mathlib.Core.List.{List, [], ◌∷◌, ◌++◌, map}
 use mathlib.Core.Option.{none}
 use lib.ListN.{length, take, replicate}
 use Rattle.fields.specs.declared.refusal.Refusal.TheVariants.{BadController, BadStore}
-use Rattle.fields.specs.Refusals.{good}
 use Rattle.fields.specs.Model.{Disk, Each}
 use Rattle.fields.proofs.Tests.{never}
 use Rattle.registers.specs.Boxes.{World, setting_of}
@@ -28,6 +27,7 @@ use Rattle.runs.proofs.Before.{before-run}
 use Rattle.runs.proofs.Gets.{save-calls, second-calls, order-calls, back-calls}
 use Rattle.lending.specs.Lendings.{Lending, is_answer, exported, word_of, host_at, lending_of, seen_in, stage_in, store_in, Formed, all_pass, Posts, words_read, new_lending}
 use Rattle.lending.proofs.Exports.{sound-fitting, refusal-fails, host-run, host-back, host-formed}
+use Rattle.std.specs.Prelude.{Ok}
 
 -- ---- words of which none is a refusal
 
@@ -162,7 +162,7 @@ polls-bytes n l f idle some =
 -- content of the sector at the address is the bytes sent, and nothing else is changed.
 pub save-bytes : (a : Save) (d : Disk) (l : Lending) (es : List Event)
     → Formed l → Ready (seen_in l) d → (save : IsSave a d) → Posts es (bytes_of a) (run exported es l).answers
-    → (store_in (run exported es l).end ≡ good (saved_by a d)) × Only (address_of a) a.content save.sector d (saved_by a d)
+    → (store_in (run exported es l).end ≡ Ok (saved_by a d)) × Only (address_of a) a.content save.sector d (saved_by a d)
 save-bytes a d l es f ready save p =
     let s = here l f in
     let q = save-calls a d (host_at l) es s.sound ready save (sends es l (host_at l) s (bytes_of a) p) in

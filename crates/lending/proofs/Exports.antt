@@ -8,23 +8,12 @@ use lib.ListN.{length-drop}
 use borrow.Author.Tests.{ne_eqb}
 use Rattle.fields.specs.Bytes.{number_at}
 use Rattle.fields.specs.declared.refusal.Refusal.{Refusal}
-use Rattle.store.specs.declared.answer.Done.{Done}
-use Rattle.store.specs.declared.answer.Done.TheVariants as done
 use Rattle.store.proofs.Checks.{transfer-in}
-use Rattle.registers.specs.declared.regs.Byte.{Byte}
-use Rattle.registers.specs.declared.regs.Byte.TheVariants as byte
-use Rattle.registers.specs.declared.regs.Flag.{Flag}
-use Rattle.registers.specs.declared.regs.Flag.TheVariants as flag
-use Rattle.registers.specs.declared.regs.Receipt.{Receipt}
-use Rattle.registers.specs.declared.regs.Receipt.TheVariants as receipt
 use Rattle.registers.specs.Calls.{motor_set, disk_set, motor_of, current_track, disk_in}
 use Rattle.registers.proofs.Numbers.{possible, possible-in, until-in}
 use Rattle.floppy.specs.declared.Floppy.{Floppy}
-use Rattle.floppy.specs.declared.Shown.{Shown}
-use Rattle.floppy.specs.declared.Changed.{Changed}
 use Rattle.floppy.specs.Calls.{changed_as, Wrote, wrote, status_call, read_call, write_call}
-use Rattle.saves.specs.Events.{Question, motor_on?, which_track?, disk_in?, Event, poll, read, send, ask, switch, swap, widen}
-use Rattle.saves.specs.Events.{Answer, showed, gave, stood, run}
+use Rattle.saves.specs.Events.{Question, motor_on?, which_track?, disk_in?, Event, poll, read, send, ask, switch, swap, widen, Answer, showed, gave, stood, run}
 use Rattle.runs.specs.Hosts.{Host, with_floppy, byte_said, flag_said, done_said, receipt_said, if_swapped, asked_in, after_shown, after_changed, after_swapped, after_wrote, called, Sound}
 use Rattle.runs.proofs.Follows.{follows}
 use Rattle.runs.proofs.Steps.{agrees}
@@ -36,6 +25,9 @@ use Rattle.host.specs.Calls.{Answered, answered, shown_word, changed_word, wrote
 use Rattle.host.proofs.Parts.{number_in}
 use Rattle.host.proofs.Same.{motor-same, track-same, disk-same, status-same, read_same, set-motor-same, set-disk-same, write_same}
 use Rattle.lending.specs.Lendings.{Lending, is_answer, swapped_on, after_answered, after_sending, asked_on, exported, word_of, host_at, lending_of, Formed, Readable}
+use Rattle.std.specs.Prelude.{Result, Ok, Err, Bool}
+use Rattle.registers.specs.declared.regs.Report.{Report}
+use Rattle.floppy.specs.declared.Shown.{Shown}
 
 -- ---- numbers that fit the fields of the layout
 
@@ -47,25 +39,25 @@ sound-fitting k s =
 
 -- ---- words
 
-byte_word_lem : (f : ℕ → Answer) → ((n : ℕ) → word_of (f n) ≡ n) → (b : Byte) → byte_word b ≡ word_of (byte_said f b)
+byte_word_lem : (f : ℕ → Answer) → ((n : ℕ) → word_of (f n) ≡ n) → (b : Result ℕ Refusal) → byte_word b ≡ word_of (byte_said f b)
 unfolding word_of
-byte_word_lem f q (byte.Of n) = sym (q n)
-byte_word_lem f q (byte.Refused why) = refl
+byte_word_lem f q (Ok n) = sym (q n)
+byte_word_lem f q (Err why) = refl
 
-flag_word_lem : (a : Flag) → flag_word a ≡ word_of (flag_said a)
+flag_word_lem : (a : Result Bool Refusal) → flag_word a ≡ word_of (flag_said a)
 unfolding word_of
-flag_word_lem (flag.Of f) = refl
-flag_word_lem (flag.Refused why) = refl
+flag_word_lem (Ok f) = refl
+flag_word_lem (Err why) = refl
 
-done-word : (a : Done) → done_word a ≡ word_of (done_said a)
+done-word : (a : Result (Unit {0}) Refusal) → done_word a ≡ word_of (done_said a)
 unfolding word_of
-done-word done.Good = refl
-done-word (done.Refused why) = refl
+done-word (Ok tt) = refl
+done-word (Err why) = refl
 
-receipt-word : (a : Receipt) → receipt_word a ≡ word_of (receipt_said a)
+receipt-word : (a : Result Report Refusal) → receipt_word a ≡ word_of (receipt_said a)
 unfolding word_of
-receipt-word (receipt.Good x) = refl
-receipt-word (receipt.Refused why) = refl
+receipt-word (Ok x) = refl
+receipt-word (Err why) = refl
 
 -- a refusal is no answer
 pub refusal-fails : (why : Refusal) → is_answer (refusal_word why) ≡ false
@@ -83,25 +75,25 @@ module _ (k : Host) (s : Sound k) where
   abbrev pub Exports : Event → Type 0
   Exports e = exported e (lending_of k) ≡ record { answer = word_of (called e k).answer; then = lending_of (called e k).then }
 
-  shown-exports : (f : ℕ → Answer) → ((n : ℕ) → word_of (f n) ≡ n) → (a : Shown)
+  shown-exports : (f : ℕ → Answer) → ((n : ℕ) → word_of (f n) ≡ n) → (a : Shown ℕ)
       → after_answered (shown_word a) (lending_of k) ≡ record { answer = word_of (after_shown f a k).answer; then = lending_of (after_shown f a k).then }
-  shown-exports f q a = λ i. record { answer = byte_word_lem f q a.byte i; then = lending_of (with_floppy a.floppy k) }
+  shown-exports f q a = λ i. record { answer = byte_word_lem f q a.answer i; then = lending_of (with_floppy a.floppy k) }
 
-  changed-exports : (a : Changed)
+  changed-exports : (a : Shown (Unit {0}))
       → after_answered (changed_word a) (lending_of k) ≡ record { answer = word_of (after_changed a k).answer; then = lending_of (after_changed a k).then }
-  changed-exports a = λ i. record { answer = done-word a.done i; then = lending_of (with_floppy a.floppy k) }
+  changed-exports a = λ i. record { answer = done-word a.answer i; then = lending_of (with_floppy a.floppy k) }
 
   wrote-exports : (a : Wrote) → after_sending (wrote_word a) ≡ record { answer = word_of (after_wrote a).answer; then = lending_of (after_wrote a).then }
-  wrote-exports (wrote a t b x) = λ i. record { answer = receipt-word a.receipt i; then = record { controller = floppy_bytes a.floppy; table = t; bytes = b; transfer = x } }
+  wrote-exports (wrote a t b x) = λ i. record { answer = receipt-word a.answer i; then = record { controller = floppy_bytes a.floppy; table = t; bytes = b; transfer = x } }
 
-  swapped-exports : (a : Changed) (t b : List ℕ)
+  swapped-exports : (a : Shown (Unit {0})) (t b : List ℕ)
       → swapped_on (changed_word a) t b (lending_of k) ≡ record { answer = word_of (after_swapped a t b k).answer; then = lending_of (after_swapped a t b k).then }
-  swapped-exports a t b = go a.done
+  swapped-exports a t b = go a.answer
     where
-      go : (d : Done) → swapped_on (answered (done_word d) (floppy_bytes a.floppy)) t b (lending_of k)
+      go : (d : Result (Unit {0}) Refusal) → swapped_on (answered (done_word d) (floppy_bytes a.floppy)) t b (lending_of k)
           ≡ record { answer = word_of (done_said d); then = lending_of (if_swapped d t b (with_floppy a.floppy k)) }
-      go done.Good = unfold word_of in refl
-      go (done.Refused why) = unfold word_of in rw (refusal-fails why)
+      go (Ok tt) = unfold word_of in refl
+      go (Err why) = unfold word_of in rw (refusal-fails why)
 
   asked-exports : (q : Question) → asked_on q (floppy_bytes F) ≡ word_of (asked_in q F.regs)
   unfolding asked_on asked_in

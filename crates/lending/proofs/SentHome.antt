@@ -5,7 +5,6 @@ use Prim.Native.Nat.{ℕ, ◌^◌, ◌/◌, ◌≤◌}
 use mathlib.Core.Bool.{false}
 use mathlib.Core.List.{List}
 use lib.ListN.{length, take}
-use Rattle.fields.specs.Refusals.{good}
 use Rattle.fields.specs.Model.{Disk}
 use Rattle.fields.specs.declared.refusal.Refusal.TheVariants.{NoImage}
 use Rattle.tracks.specs.declared.track.Kind.TheVariants.{Extended}
@@ -23,10 +22,11 @@ use Rattle.saves.specs.Words.{in_drive, Ready, Save, bytes_of, address_of, IsSav
 use Rattle.runs.proofs.Steps.{held-is}
 use Rattle.lending.specs.Lendings.{Lending, exported, host_at, stage_in, seen_in, store_in, Formed, Posts}
 use Rattle.lending.proofs.Demands.{bytes-end, save-bytes}
+use Rattle.std.specs.Prelude.{Ok}
 
-module _ (es : List Event) (l : Lending) (f : Formed l) (d : Disk) (left : in_drive (run acted es (stage_in l)).end.world ≡ Holds (good d)) where
+module _ (es : List Event) (l : Lending) (f : Formed l) (d : Disk) (left : in_drive (run acted es (stage_in l)).end.world ≡ Holds (Ok d)) where
   -- Table and data hold the disk that the machine has in its drive.
-  pub left_there : store_in (run exported es l).end ≡ good d
+  pub left_there : store_in (run exported es l).end ≡ Ok d
   unfolding inside_of
   left_there =
       let end : Lending = (run exported es l).end in
@@ -35,7 +35,7 @@ module _ (es : List Event) (l : Lending) (f : Formed l) (d : Disk) (left : in_dr
   -- Where it can be written and there is room, as many bytes as the word says are read as that disk.
   pub session-home : unwritable d ≡ false → (s s' : List ℕ) (w : ℕ) → length (image_for d) ≤ length s
       → let end : Lending = (run exported es l).end in
-      answered w s' ≡ write_image_on end.table end.bytes s → dsk_of (take (w / 2 ^ 32) s') ≡ good (record { kind = Extended; disk = d })
+      answered w s' ≡ write_image_on end.table end.bytes s → dsk_of (take (w / 2 ^ 32) s') ≡ Ok (record { kind = Extended; disk = d })
   session-home can s s' w room e =
       let end : Lending = (run exported es l).end in
       home-read end.table end.bytes d left_there can s s' w room e
@@ -52,7 +52,7 @@ pub save-home : (a : Save) (d : Disk) (l : Lending) (es : List Event)
     → unwritable (saved_by a d) ≡ false → (s s' : List ℕ) (w : ℕ) → length (image_for (saved_by a d)) ≤ length s
     → let end : Lending = (run exported es l).end in
     answered w s' ≡ write_image_on end.table end.bytes s
-    → (dsk_of (take (w / 2 ^ 32) s') ≡ good (record { kind = Extended; disk = saved_by a d })) × Only (address_of a) a.content save.sector d (saved_by a d)
+    → (dsk_of (take (w / 2 ^ 32) s') ≡ Ok (record { kind = Extended; disk = saved_by a d })) × Only (address_of a) a.content save.sector d (saved_by a d)
 save-home a d l es f ready save p can s s' w room e =
     let q = save-bytes a d l es f ready save p in
     let end : Lending = (run exported es l).end in

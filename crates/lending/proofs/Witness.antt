@@ -8,7 +8,6 @@ use lib.ListN.{length, take}
 use lib.Dec.{ltb}
 use borrow.Author.Tests.{ltb-true, lt-ltb, eq-eqb}
 use Rattle.fields.specs.Bytes.{byte_at}
-use Rattle.fields.specs.Refusals.{Result, refused, good}
 use Rattle.fields.proofs.Sizes.{size-2}
 use Rattle.fields.proofs.Tests.{never}
 use Rattle.tracks.specs.declared.track.Kind.TheVariants.{Extended}
@@ -42,6 +41,8 @@ use Rattle.lending.specs.Lendings.{Lending, is_answer, exported, word_of, lendin
 use Rattle.lending.proofs.Exports.{sound-fitting, readable-formed, host-back}
 use Rattle.lending.proofs.Demands.{Stands, stands, machine-words, save-bytes, second-bytes, order-bytes, back-bytes}
 use Rattle.lending.proofs.SentHome.{save-home}
+use Rattle.std.specs.Prelude.{Result, Ok, Err}
+use Rattle.fields.specs.declared.refusal.Refusal.{Refusal}
 
 -- ---- the bytes of the new controller are bytes
 
@@ -83,17 +84,17 @@ match-passes : (m : Match) → is_answer (match_word m) ≡ true
 match-passes m = let z : match_word m / 256 % 256 ≡ 0 = omega arith in eq-eqb (match_word m / 256 % 256) 0 z
 
 -- where bytes that are sent are granted, no word is a refusal: the first of them, and all
-sent_word : (x : Result World) (told : Report) (g : Stage) (l : List Answer) → granted ((sent_on g told x).answer ∷ l) ≡ true
+sent_word : (x : Result World Refusal) (told : Report) (g : Stage) (l : List Answer) → granted ((sent_on g told x).answer ∷ l) ≡ true
     → (granted l ≡ true → words l ≡ true) → words ((sent_on g told x).answer ∷ l) ≡ true
 unfolding granted all_pass word_of
-sent_word (refused why) told g l ok rest = never (cc)
-sent_word (good w) told g l ok rest = rw (match-passes told.sector) (rest ok)
+sent_word (Err why) told g l ok rest = never (cc)
+sent_word (Ok w) told g l ok rest = rw (match-passes told.sector) (rest ok)
 
 sent-words : (l : List ℕ) (g : Stage) → granted (run acted (send_all l) g).answers ≡ true → words (run acted (send_all l) g).answers ≡ true
 unfolding run acted send_all all_pass
 sent-words [] g ok = refl
 sent-words (b ∷ l) g ok =
-    let x : Result World = write_port g.rooms g.world b in
+    let x : Result World Refusal = write_port g.rooms g.world b in
     let y : Stage = (sent_on g (report_of g.rooms g.world b) x).then in
     sent_word x (report_of g.rooms g.world b) g (run acted (send_all l) y).answers ok (sent-words l y)
 
@@ -160,7 +161,7 @@ module _ (n : ℕ) where
   posts-last = posts (0xFF ∷ []) (run exported B (run exported E lent_bytes).end).end (run acted B (run acted E Start).end).end at_b (grants (setting_of n)).last
 
   -- table and data then hold the disk on which sector 3 of cylinder 7 has the bytes
-  pub lent-saves : store_in (run exported E lent_bytes).end ≡ good (saved_by example fresh)
+  pub lent-saves : store_in (run exported E lent_bytes).end ≡ Ok (saved_by example fresh)
   lent-saves = (save-bytes example fresh lent_bytes E lent-formed lent-ready example-is posts-first).0
 
   -- the second to sector 3 alone counts
@@ -190,5 +191,5 @@ module _ (n : ℕ) where
   -- and the disk with the save on it goes home: it is read from what is written
   pub lent-home : (s s' : List ℕ) (w : ℕ) → length (image_for (saved_by example fresh)) ≤ length s
       → let end : Lending = (run exported E lent_bytes).end in
-      answered w s' ≡ write_image_on end.table end.bytes s → dsk_of (take (w / 2 ^ 32) s') ≡ good (record { kind = Extended; disk = saved_by example fresh })
+      answered w s' ≡ write_image_on end.table end.bytes s → dsk_of (take (w / 2 ^ 32) s') ≡ Ok (record { kind = Extended; disk = saved_by example fresh })
   lent-home s s' w room e = (save-home example fresh lent_bytes E lent-formed lent-ready example-is posts-first home-can s s' w room e).0

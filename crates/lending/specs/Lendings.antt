@@ -1,8 +1,7 @@
 -- The calls as a host makes them on bytes: the exported functions, each by its promise (`crates/host/src/lib.rt`).
-use Rattle.std.specs.Prelude.{◌≡◌, ℕ, ◌/◌, ◌%◌, ◌<◌, Bool, true, false, cond, List, [], ◌∷◌, ◌++◌, eqb}
+use Rattle.std.specs.Prelude.{◌≡◌, ℕ, ◌/◌, ◌%◌, ◌<◌, Bool, true, false, cond, List, [], ◌∷◌, ◌++◌, eqb, Result}
 use Rattle.std.proofs.Math.Option.{some}
 use Rattle.fields.specs.Bytes.{byte_at}
-use Rattle.fields.specs.Refusals.{Result}
 use Rattle.fields.specs.Model.{Disk}
 use Rattle.store.specs.Store.{disk_of}
 use Rattle.registers.specs.Boxes.{World}
@@ -16,6 +15,7 @@ use Rattle.saves.specs.Events.{Answer, showed, gave, took, said, stood, denied, 
 use Rattle.saves.specs.Words.{sent_in}
 use Rattle.saves.specs.Stages.{Stage}
 use Rattle.runs.specs.Hosts.{Host, seen, stage_of, Sound}
+use Rattle.fields.specs.declared.refusal.Refusal.{Refusal}
 
 -- what a host lends: the bytes of the controller, of table, data and transfer buffer
 pub record Lending : Type 0 where
@@ -91,7 +91,7 @@ seen_in l = seen (host_at l)
 abbrev pub stage_in : Lending → Stage
 stage_in l = stage_of (host_at l)
 
-abbrev pub store_in : Lending → Result Disk
+abbrev pub store_in : Lending → Result Disk Refusal
 store_in l = disk_of l.table l.bytes
 
 -- bytes of a controller that is one: the one that is in them is, and they are its bytes

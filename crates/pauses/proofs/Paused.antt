@@ -11,10 +11,8 @@ use Rattle.buffer.specs.Over.{over}
 use Rattle.buffer.proofs.Overs.{over-length}
 use Rattle.fields.specs.Bytes.{byte_at}
 use Rattle.fields.specs.Capacities.{most_held}
-use Rattle.fields.specs.Refusals.{good}
 use Rattle.fields.specs.Model.{Disk}
 use Rattle.store.specs.Store.{room_of, transfer_room, disk_of}
-use Rattle.store.specs.declared.answer.Done.TheVariants as done
 use Rattle.store.proofs.Checks.{transfer-in}
 use Rattle.registers.specs.declared.regs.Regs.{Regs}
 use Rattle.registers.specs.Boxes.{Empty, World}
@@ -22,7 +20,6 @@ use Rattle.registers.specs.Ports.{change_disk}
 use Rattle.registers.specs.View.{rooms_of, slot_if, inside_of, front_of}
 use Rattle.registers.proofs.Numbers.{possible-in, until-in, until-long}
 use Rattle.sending.specs.Calls.{impossible_with}
-use Rattle.store.specs.declared.answer.Extent.TheVariants as extent
 use Rattle.store.specs.Calls.{penned, penned_to}
 use Rattle.sheet.specs.Sheets.{boxes_of, paper_of, sheet_of, wrong_boxes, world_in, Writable}
 use Rattle.sheet.specs.Calls.{longest_sheet, boxes_seen, sheet_written, held_for, regs_for, taken_from, resuming, sheet_read}
@@ -39,6 +36,7 @@ use Rattle.runs.proofs.Gets.{save-calls}
 use Rattle.runs.proofs.Steps.{no-smaller, agrees}
 use Rattle.runs.proofs.Together.{swapped-store, alike-calls}
 use Rattle.pauses.specs.Resumed.{host_from, disk_back}
+use Rattle.std.specs.Prelude.{Ok}
 
 -- ---- what is read from a sheet that is accepted
 
@@ -48,8 +46,8 @@ unfolding regs_for change_disk
 regs_same w = refl
 
 -- Where its unread data fit the transfer room, the controller of its boxes, whatever the registers and held bytes were.
-pub accepted-read : (s : List ℕ) (w : World) (r : Regs) (h x : List ℕ) → world_in s ≡ good w → length w.front.unread ≤ transfer_room x
-    → sheet_read r h s x ≡ resuming (record { done = done.Good; regs = regs_for w }) (held_for w.inside.write) (over x 0 w.front.unread)
+pub accepted-read : (s : List ℕ) (w : World) (r : Regs) (h x : List ℕ) → world_in s ≡ Ok w → length w.front.unread ≤ transfer_room x
+    → sheet_read r h s x ≡ resuming (record { answer = Ok tt; regs = regs_for w }) (held_for w.inside.write) (over x 0 w.front.unread)
 unfolding sheet_read taken_from
 accepted-read s w r h x e fits = rw (e, le-leb (length w.front.unread) (transfer_room x) fits) refl
 
@@ -89,7 +87,7 @@ module _ (k : Host) (s : Sound k) where
 
   -- It is written where it fits, and never refused with 1.
   pub paused-written : (buf : List ℕ) → length (sheet_of (seen k)) ≤ length buf
-      → sheet_written R k.floppy.held k.transfer buf ≡ penned (extent.Of (length (sheet_of (seen k)))) (over buf 0 (sheet_of (seen k)))
+      → sheet_written R k.floppy.held k.transfer buf ≡ penned (Ok (length (sheet_of (seen k)))) (over buf 0 (sheet_of (seen k)))
   unfolding sheet_written impossible_with penned_to
   paused-written buf h =
       rw (eq-eqb (length k.floppy.held) most_held s.held, s.possible, sheet-same, le-leb (length (sheet_of (seen k))) (length buf) h) refl
@@ -97,11 +95,11 @@ module _ (k : Host) (s : Sound k) where
   -- Read over a transfer room that is no smaller, it gives the controller of these boxes, whatever the registers and held bytes were.
   pub paused-read : (r : Regs) (h x : List ℕ) → transfer_room k.transfer ≤ transfer_room x
       → sheet_read r h (sheet_of (seen k)) x
-      ≡ resuming (record { done = done.Good; regs = regs_for (seen k) }) (held_for (seen k).inside.write) (over x 0 (seen k).front.unread)
+      ≡ resuming (record { answer = Ok tt; regs = regs_for (seen k) }) (held_for (seen k).inside.write) (over x 0 (seen k).front.unread)
   unfolding change_disk
   paused-read r h x room =
       accepted-read (sheet_of (seen k)) (change_disk Empty (seen k)) r h x (sheet-back (seen k) writable) (omega (arith, unread-few, room))
-      ∙ ap (λ (g : Regs). resuming (record { done = done.Good; regs = g }) (held_for (seen k).inside.write) (over x 0 (seen k).front.unread)) (regs_same (seen k))
+      ∙ ap (λ (g : Regs). resuming (record { answer = Ok tt; regs = g }) (held_for (seen k).inside.write) (over x 0 (seen k).front.unread)) (regs_same (seen k))
 
 -- ---- the controller that boxes give
 
@@ -133,12 +131,12 @@ module _ (w : World) (t b x : List ℕ) (right : wrong_boxes w ≡ false) (index
   from-room = rw (over-length x 0 w.front.unread (omega (arith, fits, transfer-in x)))
 
 -- A controller that is read from any sheet is one,
-pub sheet-sound : (s : List ℕ) (w : World) (t b x : List ℕ) → ((k : ℕ) → byte_at s k < 256) → world_in s ≡ good w → length w.front.unread ≤ transfer_room x
+pub sheet-sound : (s : List ℕ) (w : World) (t b x : List ℕ) → ((k : ℕ) → byte_at s k < 256) → world_in s ≡ Ok w → length w.front.unread ≤ transfer_room x
     → Sound (host_from w t b x)
 sheet-sound s w t b x bytes e fits = from-sound w t b x (accepted-right s w e) (accepted-index s w bytes e) fits
 
 -- and shows the boxes of the sheet, with no disk.
-pub sheet-seen : (s : List ℕ) (w : World) (t b x : List ℕ) → world_in s ≡ good w → seen (host_from w t b x) ≡ w
+pub sheet-seen : (s : List ℕ) (w : World) (t b x : List ℕ) → world_in s ≡ Ok w → seen (host_from w t b x) ≡ w
 sheet-seen s w t b x e = from-seen w t b x ∙ accepted-empty s w e
 
 -- ---- it goes on
@@ -222,7 +220,7 @@ pub alike-sheet : (k j : Host) → Alike k j → sheet_of (seen k) ≡ sheet_of 
 alike-sheet k j a = ap (λ (w : World). sheet_of w) a.boxes
 
 -- and one sheet that is read over as much transfer room, whatever bytes are in it, leaves hosts that are alike.
-pub read_alike : (s : List ℕ) (w : World) (t b x x' : List ℕ) → ((k : ℕ) → byte_at s k < 256) → world_in s ≡ good w → length w.front.unread ≤ transfer_room x
+pub read_alike : (s : List ℕ) (w : World) (t b x x' : List ℕ) → ((k : ℕ) → byte_at s k < 256) → world_in s ≡ Ok w → length w.front.unread ≤ transfer_room x
     → transfer_room x ≡ transfer_room x' → Alike (host_from w t b x) (host_from w t b x')
 read_alike s w t b x x' bytes e fits room =
     let fits' : length w.front.unread ≤ transfer_room x' = omega (arith, fits, room) in
@@ -239,7 +237,7 @@ read_alike s w t b x x' bytes e fits room =
 
 -- ---- demands 2 and 3 from a sheet
 
-module _ (s : List ℕ) (w : World) (t b x : List ℕ) (bytes : (k : ℕ) → byte_at s k < 256) (e : world_in s ≡ good w) (fits : length w.front.unread ≤ transfer_room x) where
+module _ (s : List ℕ) (w : World) (t b x : List ℕ) (bytes : (k : ℕ) → byte_at s k < 256) (e : world_in s ≡ Ok w) (fits : length w.front.unread ≤ transfer_room x) where
   abbrev H : Host
   H = host_from w t b x
 
@@ -253,5 +251,5 @@ module _ (s : List ℕ) (w : World) (t b x : List ℕ) (bytes : (k : ℕ) → by
   -- Demand 3: a save after any calls from there, as from any controller that is one.
   pub sheet-save : (a : Save) (d : Disk) (fs es : List Event)
       → let k : Host = (run called fs H).end in Ready (seen k) d → (save : IsSave a d) → Sends es (bytes_of a) (run called es k).answers
-      → (store_of (run called es k).end ≡ good (saved_by a d)) × Only (address_of a) a.content save.sector d (saved_by a d)
+      → (store_of (run called es k).end ≡ Ok (saved_by a d)) × Only (address_of a) a.content save.sector d (saved_by a d)
   sheet-save a d fs es = save-calls a d (run called fs H).end es (calls-sound fs H (sheet-sound s w t b x bytes e fits))

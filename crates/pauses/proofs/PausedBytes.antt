@@ -6,7 +6,6 @@ use lib.ListN.{length}
 use borrow.Author.Tests.{eq-eqb}
 use Rattle.buffer.specs.Over.{over}
 use Rattle.fields.specs.Bytes.{byte_at}
-use Rattle.fields.specs.Refusals.{good}
 use Rattle.fields.specs.Model.{Disk}
 use Rattle.store.specs.Store.{transfer_room}
 use Rattle.registers.specs.Boxes.{World}
@@ -23,6 +22,7 @@ use Rattle.lending.proofs.Exports.{exports, host-run, host-back, host-formed}
 use Rattle.lending.proofs.Demands.{bytes-formed, formed-read, save-bytes}
 use Rattle.pauses.specs.Resumed.{host_from, disk_back, lending_from, disk_back_in}
 use Rattle.pauses.proofs.Paused.{accepted-read, paused-short, paused-written, paused-read, sheet-sound, from_is, goes_on, goes-on-calls}
+use Rattle.std.specs.Prelude.{Ok}
 
 -- ---- writing and reading
 
@@ -34,7 +34,7 @@ module _ (l : Lending) (f : Formed l) where
   pub bytes-short : length (sheet_of (seen_in l)) ≤ longest_sheet
   bytes-short = paused-short K f.sound
 
-  regs_are : regs_in l.controller ≡ good (regs_at l.controller)
+  regs_are : regs_in l.controller ≡ Ok (regs_at l.controller)
   unfolding regs_in
   regs_are = rw (formed-read l f).0 refl
 
@@ -52,13 +52,13 @@ module _ (l : Lending) (f : Formed l) where
       rw (eq-eqb (length c) controller_length long) (ap (resumed_on c) (paused-read K f.sound (regs_at c) (held_at c) x room))
 
 -- Any sheet that is accepted, and whose unread data fit the transfer room, is read so, whatever the controller's bytes were,
-pub sheet-read : (s : List ℕ) (w : World) (c t b x : List ℕ) → world_in s ≡ good w → length w.front.unread ≤ transfer_room x → length c ≡ controller_length
+pub sheet-read : (s : List ℕ) (w : World) (c t b x : List ℕ) → world_in s ≡ Ok w → length w.front.unread ≤ transfer_room x → length c ≡ controller_length
     → read_sheet_on c x s ≡ taken_up 0 (lending_from w t b x).controller (lending_from w t b x).transfer
 unfolding read_sheet_on
 sheet-read s w c t b x e fits long =
     rw (eq-eqb (length c) controller_length long) (ap (resumed_on c) (accepted-read s w (regs_at c) (held_at c) x e fits))
 
-module _ (s : List ℕ) (w : World) (t b x : List ℕ) (bytes : (k : ℕ) → byte_at s k < 256) (e : world_in s ≡ good w) (fits : length w.front.unread ≤ transfer_room x) where
+module _ (s : List ℕ) (w : World) (t b x : List ℕ) (bytes : (k : ℕ) → byte_at s k < 256) (e : world_in s ≡ Ok w) (fits : length w.front.unread ≤ transfer_room x) where
   -- and what is read are bytes of a controller that is one: so all that is proved of such bytes, demands 2 and 3 among it, holds from there on.
   pub sheet-formed : Formed (lending_from w t b x)
   sheet-formed = host-formed (host_from w t b x) (sheet-sound s w t b x bytes e fits)
@@ -66,7 +66,7 @@ module _ (s : List ℕ) (w : World) (t b x : List ℕ) (bytes : (k : ℕ) → by
   -- Demand 3: a save by exported calls, after any calls from there.
   pub sheet-save-bytes : (a : Save) (d : Disk) (fs es : List Event)
       → let l : Lending = (run exported fs (lending_from w t b x)).end in Ready (seen_in l) d → (save : IsSave a d) → Posts es (bytes_of a) (run exported es l).answers
-      → (store_in (run exported es l).end ≡ good (saved_by a d)) × Only (address_of a) a.content save.sector d (saved_by a d)
+      → (store_in (run exported es l).end ≡ Ok (saved_by a d)) × Only (address_of a) a.content save.sector d (saved_by a d)
   sheet-save-bytes a d fs es = save-bytes a d (run exported fs (lending_from w t b x)).end es (bytes-formed fs (lending_from w t b x) sheet-formed)
 
 -- ---- it goes on

@@ -3,13 +3,13 @@ use mathlib.Core.Path.{◌≡◌, refl}
 use mathlib.Core.Bool.{true}
 use mathlib.Core.List.{[], ◌∷◌}
 use mathlib.Core.Option.{some}
-use Rattle.fields.specs.Refusals.{good}
 use Rattle.codes.specs.Table.{command_of, command_by, rows, mask_rows}
 use Rattle.registers.specs.declared.regs.Goal.TheVariants.{IntoTrack}
 use Rattle.registers.specs.Boxes.{rust_machine, sheet_machine, Empty, World, new_world}
 use Rattle.registers.specs.View.{wrong_work}
 use Rattle.registers.specs.declared.regs.Seek.TheVariants.{Done}
 use Rattle.sheet.specs.Sheets.{high_at, boxes_of, boxes_for, paper_of, sheet_of, behind, box_at, places_of, sheet_at, framed, in_range, world_from, wrong_boxes, world_in}
+use Rattle.std.specs.Prelude.{Ok}
 
 -- a new controller
 pub new-sheet : sheet_of (new_world rust_machine)
@@ -61,11 +61,11 @@ unfolding paper_of boxes_of boxes_for busy
 busy-sheet = refl
 
 -- each is read back
-pub new-back : world_in (sheet_of (new_world rust_machine)) ≡ good (new_world rust_machine)
+pub new-back : world_in (sheet_of (new_world rust_machine)) ≡ Ok (new_world rust_machine)
 unfolding new_world paper_of boxes_of boxes_for world_in framed places_of behind high_at sheet_at box_at in_range world_from wrong_boxes wrong_work command_of command_by rows mask_rows
 new-back = refl
 
-pub busy-back : world_in (sheet_of busy) ≡ good busy
+pub busy-back : world_in (sheet_of busy) ≡ Ok busy
 unfolding busy paper_of boxes_of boxes_for world_in framed places_of behind high_at sheet_at box_at in_range world_from wrong_boxes wrong_work command_of command_by rows mask_rows
 busy-back = refl
 
@@ -82,6 +82,6 @@ pub old-back : world_in
     ∷ 0 ∷ 1 ∷ 0
     ∷ 0 ∷ 0
     ∷ [])
-    ≡ good (new_world rust_machine)
+    ≡ Ok (new_world rust_machine)
 unfolding new_world world_in framed places_of behind high_at sheet_at box_at in_range world_from wrong_boxes wrong_work command_of command_by rows mask_rows
 old-back = refl

@@ -4,22 +4,20 @@ use Prim.Native.Nat.{ℕ, zero, suc, ◌+◌, ◌*◌, ◌-◌, ◌%◌, ◌^◌
 use native.Mathlib.Nat.{add-zero}
 use native.Mathlib.Omega.{arith}
 use mathlib.Core.Bool.{Bool, true, false, not, ◌&&◌, ◌||◌}
-use mathlib.Core.List.{List, [], ◌++◌, append-nil}
-use lib.ListN.{length, take, drop, replicate, length-drop, length-replicate, drop_of_length-le}
+use mathlib.Core.List.{List, []}
+use lib.ListN.{length, take, drop, replicate, length-drop, drop_of_length-le}
 use lib.Seq.{get_or-drop, drop-drop}
 use lib.Dec.{eqb, leb, ltb}
 use borrow.Author.Tests.{eq-eqb, ne_eqb, le-leb, lt-leb, leb-true, eqb-true, not-true, not-false}
 use Rattle.buffer.specs.Over.{over}
-use Rattle.buffer.proofs.Overs.{over-nil, over-front}
+use Rattle.buffer.proofs.Overs.{over-nil}
 use Rattle.fields.specs.Bytes.{byte_at}
 use Rattle.fields.specs.Capacities.{most_transfer, most_held}
-use Rattle.fields.specs.Refusals.{Result, refused, good, need, after}
+use Rattle.fields.specs.Refusals.{need, after}
 use Rattle.fields.specs.declared.refusal.Refusal.{Refusal}
 use Rattle.fields.specs.declared.refusal.Refusal.TheVariants.{BadSheet, NoTransferRoom}
 use Rattle.store.specs.Store.{transfer_room}
 use Rattle.store.proofs.Checks.{transfer-in}
-use Rattle.store.specs.declared.answer.Done.{Done}
-use Rattle.store.specs.declared.answer.Done.TheVariants as done
 use Rattle.fields.proofs.Tests.{and-fst, and-snd, never}
 use Rattle.codes.specs.declared.command.Command.{Command}
 use Rattle.codes.specs.Table.{command_of, bytes_for}
@@ -32,25 +30,17 @@ use Rattle.registers.specs.declared.regs.Goal.{Goal}
 use Rattle.registers.specs.declared.regs.Target.{Target}
 use Rattle.registers.specs.Boxes.{Setting, setting_of, Writing, World}
 use Rattle.registers.specs.View.{goal_if, wrong_work}
-use Rattle.registers.specs.Settle.{no_pending, track_in, target_in}
+use Rattle.registers.specs.declared.regs.Answered.{Answered}
+use Rattle.registers.specs.Settle.{accepted, declined, no_pending, track_in, target_in}
 use Rattle.layout.specs.Layout.{flag_at, seek_at}
 use Rattle.sheet.specs.declared.reading.Places.{Places}
 use Rattle.sheet.specs.Sheets.{high_at, box_at, behind, behind_new, is_old, places_of, boxes_at, framed, Sheet, one_to, is_work, in_range, target_at, work_if, in_box}
 use Rattle.sheet.specs.Sheets.{either_box, no_write, world_from, wrong_writing, wrong_boxes, sheet_at, world_in}
 use Rattle.sheet.specs.Calls.{on_zeros, pending_for, held_for, regs_for, taken_from, whether_taken, resuming, resumed_as, sheet_read}
 use Rattle.sheet.proofs.Gives.{machine-number, held-few, command-few, reply-few, write-fits}
+use Rattle.std.specs.Prelude.{Result, Ok, Err}
 
 -- ---- the form
-
--- four bytes are two and two
-pub four_is : (s : List ℕ) (at a b : ℕ) → a ≡ high_at 2 s at → b ≡ high_at 2 s (at + 2) → 65536 * a + b ≡ high_at 4 s at
-unfolding high_at
-four_is s at a b e f =
-    let p : at + 1 + 1 ≡ at + 2 = omega arith in
-    let q : at + 1 + 1 + 1 ≡ at + 2 + 1 = omega arith in
-    let y : byte_at s (at + 1 + 1) ≡ byte_at s (at + 2) = ap (byte_at s) p in
-    let z : byte_at s (at + 1 + 1 + 1) ≡ byte_at s (at + 2 + 1) = ap (byte_at s) q in
-    omega (arith, e, f, y, z)
 
 -- a number among the bytes from a place on
 high-rest : (width : ℕ) (s : List ℕ) (at k : ℕ) → high_at width (drop at s) k ≡ high_at width s (at + k)
@@ -162,22 +152,10 @@ pending-some t x z q e = rw (ne_eqb (length x) 0 q) (λ i. record {
 })
 
 -- the held bytes: zeros, and over them what stands behind c1 and ID
-zeros-laid : (h : List ℕ) → length h ≡ most_held → over h 0 (replicate most_held 0) ≡ replicate most_held 0
-zeros-laid h e =
-    let z : List ℕ = replicate most_held 0 in
-    let n : length z ≡ most_held = length-replicate {A = ℕ} most_held 0 in
-    over-front h z ∙ ap (λ (y : List ℕ). z ++ y) (drop_of_length-le h {i = length z} (omega (arith, e, n))) ∙ append-nil z
-
-pub tail-fits : (x y h f : List ℕ) → y ≡ drop 5 x → length x ≤ 5 + most_held → length h ≡ most_held → f ≡ over h 0 (replicate most_held 0) → 0 + length y ≤ length f
-tail-fits x y h f e k l g =
-    let z : length y ≡ length x - 5 = ap length e ∙ length-drop 5 x in
-    let n : length f ≡ most_held = ap length (g ∙ zeros-laid h l) ∙ length-replicate {A = ℕ} most_held 0 in
-    omega (arith, z, n)
-
-pub held-laid : (x y h f b : List ℕ) → length h ≡ most_held → f ≡ over h 0 (replicate most_held 0) → y ≡ drop 5 x → b ≡ over f 0 y
+pub held-laid : (x y h f b : List ℕ) → length h ≡ most_held → f ≡ replicate (length h) 0 → y ≡ drop 5 x → b ≡ over f 0 y
     → (t : Bool) → b ≡ held_for (in_box t x)
 held-laid x y h f b l e g q tr =
-    let z : b ≡ over (replicate most_held 0) 0 (drop 5 x) = q ∙ (λ i. over ((e ∙ zeros-laid h l) i) 0 (g i)) in
+    let z : b ≡ over (replicate most_held 0) 0 (drop 5 x) = q ∙ (λ i. over ((e ∙ ap (λ (n : ℕ). replicate n 0) l) i) 0 (g i)) in
     z ∙ go (eqb (length x) 0) refl
   where
     go : (v : Bool) → eqb (length x) 0 ≡ v → over (replicate most_held 0) 0 (drop 5 x) ≡ held_for (work_if tr v x)
@@ -354,27 +332,27 @@ range-true s p v e f = sym e ∙ not-false v f
 
 module _ (s x : List ℕ) (p : Places) (e : p ≡ places_of s) where
   -- what is taken from the sheet, by the four tests
-  taken-by : taken_from s x ≡ after (need (framed s) BadSheet (need (in_range (boxes_at s p)) BadSheet (need (not (wrong_boxes (world_from (boxes_at s p)))) BadSheet (good (world_from (boxes_at s p))))))
-      (λ w. need (leb (length w.front.unread) (transfer_room x)) NoTransferRoom (good w))
+  taken-by : taken_from s x ≡ after (need (framed s) BadSheet (need (in_range (boxes_at s p)) BadSheet (need (not (wrong_boxes (world_from (boxes_at s p)))) BadSheet (Ok (world_from (boxes_at s p))))))
+      (λ w. need (leb (length w.front.unread) (transfer_room x)) NoTransferRoom (Ok w))
   unfolding taken_from world_in sheet_at
-  taken-by = ap (λ (q : Places). after (need (framed s) BadSheet (need (in_range (boxes_at s q)) BadSheet (need (not (wrong_boxes (world_from (boxes_at s q)))) BadSheet (good (world_from (boxes_at s q))))))
-      (λ w. need (leb (length w.front.unread) (transfer_room x)) NoTransferRoom (good w))) (sym e)
+  taken-by = ap (λ (q : Places). after (need (framed s) BadSheet (need (in_range (boxes_at s q)) BadSheet (need (not (wrong_boxes (world_from (boxes_at s q)))) BadSheet (Ok (world_from (boxes_at s q))))))
+      (λ w. need (leb (length w.front.unread) (transfer_room x)) NoTransferRoom (Ok w))) (sym e)
 
-  pub judge-form : (u : Bool) → u ≡ framed s → not u ≡ true → done.Refused BadSheet ≡ whether_taken (taken_from s x)
+  pub judge-form : (u : Bool) → u ≡ framed s → not u ≡ true → Err BadSheet ≡ whether_taken (taken_from s x)
   judge-form u eu nu = let a : framed s ≡ false = sym eu ∙ not-true u nu in rw (taken-by, a) refl
 
   module _ (u : Bool) (eu : u ≡ framed s) (nu : not u ≡ false) where
     a : framed s ≡ true
     a = sym eu ∙ not-false u nu
 
-    pub judge-range : (v : Bool) → v ≡ in_range (boxes_at s p) → not v ≡ true → done.Refused BadSheet ≡ whether_taken (taken_from s x)
+    pub judge-range : (v : Bool) → v ≡ in_range (boxes_at s p) → not v ≡ true → Err BadSheet ≡ whether_taken (taken_from s x)
     judge-range v ev nv = let b : in_range (boxes_at s p) ≡ false = sym ev ∙ not-true v nv in rw (taken-by, a, b) refl
 
     module _ (v : Bool) (ev : v ≡ in_range (boxes_at s p)) (nv : not v ≡ false) where
       b : in_range (boxes_at s p) ≡ true
       b = sym ev ∙ not-false v nv
 
-      pub judge-boxes : (w : Bool) → w ≡ wrong_boxes (world_from (boxes_at s p)) → w ≡ true → done.Refused BadSheet ≡ whether_taken (taken_from s x)
+      pub judge-boxes : (w : Bool) → w ≡ wrong_boxes (world_from (boxes_at s p)) → w ≡ true → Err BadSheet ≡ whether_taken (taken_from s x)
       judge-boxes w ew nw = let c : wrong_boxes (world_from (boxes_at s p)) ≡ true = sym ew ∙ nw in rw (taken-by, a, b, c) refl
 
       module _ (w : Bool) (ew : w ≡ wrong_boxes (world_from (boxes_at s p))) (nw : w ≡ false) (y : List ℕ) (n : ℕ) (ey : y ≡ box_at 4 s p.unread) (en : n ≡ transfer_room x) where
@@ -385,13 +363,13 @@ module _ (s x : List ℕ) (p : Places) (e : p ≡ places_of s) where
         unfolding world_from
         unread-is = ap length (sym ey)
 
-        pub judge-room : n < length y → done.Refused NoTransferRoom ≡ whether_taken (taken_from s x)
+        pub judge-room : n < length y → Err NoTransferRoom ≡ whether_taken (taken_from s x)
         judge-room h =
             let d : leb (length (world_from (boxes_at s p)).front.unread) (transfer_room x) ≡ false
             = lt-leb (length (world_from (boxes_at s p)).front.unread) (transfer_room x) (omega (arith, unread-is, en, h)) in
             rw (taken-by, a, b, c, d) refl
 
-        pub judge-good : length y ≤ n → done.Good ≡ whether_taken (taken_from s x)
+        pub judge-good : length y ≤ n → Ok tt ≡ whether_taken (taken_from s x)
         judge-good h =
             let d : leb (length (world_from (boxes_at s p)).front.unread) (transfer_room x) ≡ true
             = le-leb (length (world_from (boxes_at s p)).front.unread) (transfer_room x) (omega (arith, unread-is, en, h)) in
@@ -404,7 +382,7 @@ pub record Taken (s x : List ℕ) (p : Places) : Type 0 where
   pub range : in_range (boxes_at s p) ≡ true
   pub right : wrong_boxes (world_from (boxes_at s p)) ≡ false
   pub room : length (box_at 4 s p.unread) ≤ transfer_room x
-  pub is : taken_from s x ≡ good (world_from (boxes_at s p))
+  pub is : taken_from s x ≡ Ok (world_from (boxes_at s p))
 
 module _ (s x : List ℕ) (p : Places) (e : p ≡ places_of s) where
   abbrev W : World
@@ -417,31 +395,31 @@ module _ (s x : List ℕ) (p : Places) (e : p ≡ places_of s) where
   unfolding world_from
   room-is d = leb-true (length (box_at 4 s p.unread)) (transfer_room x) d
 
-  taken-good : whether_taken (taken_from s x) ≡ done.Good → Taken s x p
+  taken-good : whether_taken (taken_from s x) ≡ Ok tt → Taken s x p
   taken-good j = go (framed s) refl (in_range (boxes_at s p)) refl (wrong_boxes W) refl (Room W) refl
     where
       by : (a b c : Bool) → framed s ≡ a → in_range (boxes_at s p) ≡ b → wrong_boxes W ≡ c
-          → taken_from s x ≡ after (need a BadSheet (need b BadSheet (need (not c) BadSheet (good W)))) (λ w. need (Room w) NoTransferRoom (good w))
+          → taken_from s x ≡ after (need a BadSheet (need b BadSheet (need (not c) BadSheet (Ok W)))) (λ w. need (Room w) NoTransferRoom (Ok w))
       by a b c ea eb ec =
           taken-by s x p e
-          ∙ (λ i. after (need (ea i) BadSheet (need (eb i) BadSheet (need (not (ec i)) BadSheet (good W)))) (λ w. need (Room w) NoTransferRoom (good w)))
+          ∙ (λ i. after (need (ea i) BadSheet (need (eb i) BadSheet (need (not (ec i)) BadSheet (Ok W)))) (λ w. need (Room w) NoTransferRoom (Ok w)))
 
-      no : (why : Refusal) → taken_from s x ≡ refused why → Taken s x p
-      no why y = let z : done.Refused why ≡ done.Good = sym (ap whether_taken y) ∙ j in never (cc)
+      no : (why : Refusal) → taken_from s x ≡ Err why → Taken s x p
+      no why y = let z : Err why ≡ Ok tt = sym (ap whether_taken y) ∙ j in never (cc)
 
       go : (a : Bool) → framed s ≡ a → (b : Bool) → in_range (boxes_at s p) ≡ b → (c : Bool) → wrong_boxes W ≡ c → (d : Bool) → Room W ≡ d → Taken s x p
       go false ea b eb c ec d ed = no BadSheet (by false b c ea eb ec)
       go true ea false eb c ec d ed = no BadSheet (by true false c ea eb ec)
       go true ea true eb true ec d ed = no BadSheet (by true true true ea eb ec)
-      go true ea true eb false ec false ed = no NoTransferRoom (by true true false ea eb ec ∙ ap (λ (v : Bool). need v NoTransferRoom (good W)) ed)
+      go true ea true eb false ec false ed = no NoTransferRoom (by true true false ea eb ec ∙ ap (λ (v : Bool). need v NoTransferRoom (Ok W)) ed)
       go true ea true eb false ec true ed = record {
         range = eb;
         right = ec;
         room = room-is ed;
-        is = by true true false ea eb ec ∙ ap (λ (v : Bool). need v NoTransferRoom (good W)) ed;
+        is = by true true false ea eb ec ∙ ap (λ (v : Bool). need v NoTransferRoom (Ok W)) ed;
       }
 
-  module _ (d : Done) (ed : d ≡ whether_taken (taken_from s x)) (eg : d ≡ done.Good) where
+  module _ (d : Result (Unit {0}) Refusal) (ed : d ≡ whether_taken (taken_from s x)) (eg : d ≡ Ok tt) where
     t : Taken s x p
     t = taken-good (sym ed ∙ eg)
 
@@ -461,21 +439,21 @@ module _ (s x : List ℕ) (p : Places) (e : p ≡ places_of s) where
     taken-few = omega (arith, t.room, (transfer-in x).1)
 
     -- all that is left where the sheet is good
-    pub read-good : (r a : Regs) (h g y z l : List ℕ) → y ≡ WorkBox s p → ((v : Bool) → g ≡ held_for (in_box v y)) → z ≡ box_at 4 s p.unread → l ≡ over x 0 z
-        → a ≡ regs_for (world_from (boxes_at s p)) → resuming (record { done = d; regs = a }) g l ≡ sheet_read r h s x
+    pub read-good : (r b : Regs) (a : Answered (Unit {0})) (h g y z l : List ℕ) → y ≡ WorkBox s p → ((v : Bool) → g ≡ held_for (in_box v y)) → z ≡ box_at 4 s p.unread → l ≡ over x 0 z
+        → b ≡ regs_for (world_from (boxes_at s p)) → a ≡ accepted tt b → resuming a g l ≡ sheet_read r h s x
     unfolding sheet_read world_from
-    read-good r a h g y z l ey eg' ez el ea =
-        (λ i. resuming (record { done = eg i; regs = ea i }) ((eg' (no_write (boxes_at s p)) ∙ ap (λ (v : List ℕ). held_for (in_box (no_write (boxes_at s p)) v)) ey) i) ((el ∙ ap (over x 0) ez) i))
-        ∙ ap (λ (v : Result World). resumed_as v r h x) (sym t.is)
+    read-good r b a h g y z l ey eg' ez el eb ea =
+        (λ i. resuming ((ea ∙ ap (accepted tt) eb) i) ((eg' (no_write (boxes_at s p)) ∙ ap (λ (v : List ℕ). held_for (in_box (no_write (boxes_at s p)) v)) ey) i) ((el ∙ ap (over x 0) ez) i))
+        ∙ ap (λ (v : Result World Refusal). resumed_as v r h x) (sym t.is)
 
 -- and where it is refused
-pub read-refused : (s x h : List ℕ) (r : Regs) (d : Done) (why : Refusal) → d ≡ whether_taken (taken_from s x) → d ≡ done.Refused why
-    → resuming (record { done = d; regs = r }) h x ≡ sheet_read r h s x
+pub read-refused : (s x h : List ℕ) (r : Regs) (a : Answered (Unit {0})) (d : Result (Unit {0}) Refusal) (why : Refusal) → d ≡ whether_taken (taken_from s x) → d ≡ Err why
+    → a ≡ declined why r → resuming a h x ≡ sheet_read r h s x
 unfolding sheet_read
-read-refused s x h r d why e q = go (taken_from s x) refl
+read-refused s x h r a d why e q f = go (taken_from s x) refl
   where
-    go : (v : Result World) → taken_from s x ≡ v → resuming (record { done = d; regs = r }) h x ≡ resumed_as (taken_from s x) r h x
-    go (refused z) f =
-        let k : d ≡ done.Refused z = e ∙ ap whether_taken f in
-        ap (λ (y : Done). resuming (record { done = y; regs = r }) h x) k ∙ ap (λ (v : Result World). resumed_as v r h x) (sym f)
-    go (good w) f = let k : done.Good ≡ done.Refused why = sym (ap whether_taken f) ∙ sym e ∙ q in never (cc)
+    go : (v : Result World Refusal) → taken_from s x ≡ v → resuming a h x ≡ resumed_as (taken_from s x) r h x
+    go (Err z) g =
+        let k : why ≡ z = cc (ap whether_taken g) in
+        ap (λ (y : Answered (Unit {0})). resuming y h x) f ∙ ap (λ (y : Refusal). resuming (declined y r) h x) k ∙ ap (λ (v : Result World Refusal). resumed_as v r h x) (sym g)
+    go (Ok w) g = let k : Ok tt ≡ Err why = sym (ap whether_taken g) ∙ sym e ∙ q in never (cc)

@@ -1,10 +1,12 @@
 -- Boxes laid one behind another.
 use mathlib.Core.Path.{◌≡◌, refl, sym, ap, ◌∙◌}
 use Prim.Native.Nat.{ℕ, ◌+◌, ◌-◌, ◌%◌, ◌≤◌, ◌<◌}
+use native.Mathlib.Nat.{add-zero}
 use native.Mathlib.Omega.{arith}
+use Rattle.std.specs.Int.{w64, to_be_bytes}
 use mathlib.Core.Bool.{Bool, true, false, not}
 use mathlib.Core.List.{List, [], ◌∷◌, ◌++◌, append_assoc, append-nil}
-use lib.ListN.{length, take, length-append}
+use lib.ListN.{length, take, drop, length-append}
 use lib.Seq.{length-take-le, slice}
 use borrow.Author.Tests.{not-true, not-false}
 use Rattle.buffer.specs.Over.{over}
@@ -18,28 +20,29 @@ use Rattle.layout.specs.Layout.{flag_byte, seek_byte}
 use Rattle.sheet.specs.Sheets.{high_for, box_for, write_box, format_box, sheet_version, boxes_of, boxes_for, paper_of, sheet_of}
 use Rattle.store.specs.Calls.{penned}
 use Rattle.store.proofs.Pens.{penned-short, penned-whole}
-use Rattle.store.specs.declared.answer.Extent.TheVariants.{Of, Refused}
 use Rattle.sheet.specs.Calls.{boxes_seen, work_for, sheet_written}
 use Rattle.sheet.proofs.Gives.{machine-number}
+use Rattle.sheet.proofs.Highs.{high-bytes, high-before, high-long}
 use Rattle.sheet.proofs.Lengths.{work-long, Known}
+use Rattle.std.specs.Prelude.{Ok, Err}
 
 -- two parts, the second just behind the first
 laid-behind : (d d₁ d₂ a b : List ℕ) (at at' : ℕ) → at ≤ length d → at' ≡ at + length a → d₁ ≡ over d at a → d₂ ≡ over d₁ at' b
     → d₂ ≡ over d at (a ++ b)
 laid-behind d d₁ d₂ a b at at' h e p q = q ∙ ap (λ (z : List ℕ). over z at' b) p ∙ over-over d at a b at' e h
 
--- a box: its length, in two bytes or four, and then its bytes
+-- a box: its length, and then its bytes
 laid-box : (d d₁ d₂ a x : List ℕ) (at at' : ℕ) → at' + length x ≤ length d → at' ≡ at + length a → d₁ ≡ over d at a → d₂ ≡ over d₁ at' x
     → d₂ ≡ over d at (a ++ (x ++ []))
 laid-box d d₁ d₂ a x at at' h e p q = laid-behind d d₁ d₂ a x at at' (omega arith) e p q ∙ ap (λ (z : List ℕ). over d at (a ++ z)) (sym (append-nil x))
 
-pub laid-short : (d d₁ d₂ x : List ℕ) (at : ℕ) → at + 2 + length x ≤ length d → d₁ ≡ over d at (high_for 2 (length x) []) → d₂ ≡ over d₁ (at + 2) x
-    → d₂ ≡ over d at (box_for 2 x [])
-laid-short d d₁ d₂ x at h p q = laid-box d d₁ d₂ (high_for 2 (length x) []) x at (at + 2) h refl p q
-
-pub laid-long : (d d₁ d₂ x : List ℕ) (at : ℕ) → at + 4 + length x ≤ length d → d₁ ≡ over d at (high_for 4 (length x) []) → d₂ ≡ over d₁ (at + 4) x
-    → d₂ ≡ over d at (box_for 4 x [])
-laid-long d d₁ d₂ x at h p q = laid-box d d₁ d₂ (high_for 4 (length x) []) x at (at + 4) h refl p q
+pub laid-put : (d d₁ d₂ b x : List ℕ) (at width : ℕ) → width ≤ 4 → at + width + length x ≤ length d → b ≡ to_be_bytes w64 (length x)
+    → d₁ ≡ over d at (take (8 - (8 - width)) (drop (8 - width) b)) → d₂ ≡ over d₁ (at + width) x → d₂ ≡ over d at (box_for width x [])
+laid-put d d₁ d₂ b x at width few h e p q =
+    let a : List ℕ = high_for width (length x) [] in
+    let n : length a ≡ width = high-long width (length x) [] ∙ add-zero width in
+    let r : d₁ ≡ over d at a = p ∙ ap (λ (z : List ℕ). over d at (take (8 - (8 - width)) (drop (8 - width) z))) e ∙ ap (over d at) (high-bytes width (length x) few) in
+    laid-box d d₁ d₂ a x at (at + width) (omega (arith, h)) (omega (arith, n)) r q ∙ ap (over d at) (sym (high-before width (length x) [] (x ++ [])))
 
 -- the box of a write that is to stand here, or is not
 pub laid_none : (d d₁ h : List ℕ) (at : ℕ) (f : Bool) (p : Pending) → not f ≡ true → d₁ ≡ over d at (box_for 2 [] [])
@@ -147,16 +150,16 @@ laid-sheet d d₁ d₂ h x r n at k e p f q =
 
 module _ (r : Regs) (h x s : List ℕ) where
   -- numbers that no controller has
-  pub written-wrong : impossible_with h x r ≡ true → penned (Refused BadController) s ≡ sheet_written r h x s
+  pub written-wrong : impossible_with h x r ≡ true → penned (Err BadController) s ≡ sheet_written r h x s
   unfolding sheet_written
   written-wrong e = rw e
 
   module _ (n : ℕ) (e : impossible_with h x r ≡ false) (l : n ≡ length (sheet_of (boxes_seen r h x))) where
     -- a buffer that is too short, and one that is not
-    pub written-short : length s < n → penned (Refused ShortBuffer) s ≡ sheet_written r h x s
+    pub written-short : length s < n → penned (Err ShortBuffer) s ≡ sheet_written r h x s
     unfolding sheet_written
     written-short k = rw e (penned-short (sheet_of (boxes_seen r h x)) s n l k)
 
-    pub written-whole : (s' : List ℕ) → n ≤ length s → s' ≡ over s 0 (sheet_of (boxes_seen r h x)) → penned (Of n) s' ≡ sheet_written r h x s
+    pub written-whole : (s' : List ℕ) → n ≤ length s → s' ≡ over s 0 (sheet_of (boxes_seen r h x)) → penned (Ok n) s' ≡ sheet_written r h x s
     unfolding sheet_written
     written-whole s' k q = rw e (penned-whole (sheet_of (boxes_seen r h x)) s n l s' k q)

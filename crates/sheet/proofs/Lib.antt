@@ -2,6 +2,7 @@
 pub mod Gives
 pub mod Lengths
 pub mod Rounds
+mod Highs
 mod Lays
 mod Judges
 pub mod Examples

@@ -11,7 +11,6 @@ use lib.Dec.{eqb, leb}
 use borrow.Author.Tests.{eqb-true, leb-true, eq-eqb, ne_eqb, le-leb, not-true}
 use Rattle.fields.specs.Bytes.{byte_at}
 use Rattle.fields.specs.Capacities.{most_transfer, most_held}
-use Rattle.fields.specs.Refusals.{good}
 use Rattle.registers.specs.declared.regs.Seek.{Seek}
 use Rattle.registers.specs.declared.regs.Seek.TheVariants.{Idle, Running, Done}
 use Rattle.registers.specs.declared.regs.Goal.{Goal}
@@ -26,6 +25,7 @@ use Rattle.sheet.specs.Sheets.{box_at, behind, behind_new, is_old, places_of, sh
 use Rattle.sheet.specs.Sheets.{world_from, wrong_writing, wrong_boxes, world_in, Writable}
 use Rattle.sheet.specs.declared.reading.Places.{Places}
 use Rattle.sheet.proofs.Gives.{setting_same, held-few, command-few, reply-few, write-fits}
+use Rattle.std.specs.Prelude.{Ok}
 
 -- ---- numbers, high byte first
 
@@ -451,7 +451,7 @@ short w f = record {
 }
 
 -- Reading what was written gives the same boxes, with no disk.
-pub sheet-back : (w : World) → Writable w → world_in (sheet_of w) ≡ good (change_disk Empty w)
+pub sheet-back : (w : World) → Writable w → world_in (sheet_of w) ≡ Ok (change_disk Empty w)
 unfolding world_in
 sheet-back w f =
     let one : one_to 1 (boxes_of w).machine ≡ true = unfold boxes_of in machine-few w.inside.setting.machine in
@@ -468,7 +468,7 @@ record Accepted (s : List ℕ) (w : World) : Type 0 where
   pub right : wrong_boxes w ≡ false
   pub from : world_from (sheet_at s) ≡ w
 
-accepted : (s : List ℕ) (w : World) → world_in s ≡ good w → Accepted s w
+accepted : (s : List ℕ) (w : World) → world_in s ≡ Ok w → Accepted s w
 unfolding world_in
 accepted s w e =
     let (frame, e1) = need-good (framed s) _ _ _ e in
@@ -491,7 +491,7 @@ index-small s b k =
     take-small (high_at 2 s at) (drop (at + 2) s) k (rw get_or-drop (b (at + 2 + k)))
 
 -- A sheet of version 2 that is accepted is the sheet of the boxes that it gives.
-pub sheet-is : (s : List ℕ) (w : World) → is_old s ≡ false → ((k : ℕ) → byte_at s k < 256) → world_in s ≡ good w → sheet_of w ≡ s
+pub sheet-is : (s : List ℕ) (w : World) → is_old s ≡ false → ((k : ℕ) → byte_at s k < 256) → world_in s ≡ Ok w → sheet_of w ≡ s
 sheet-is s w new b e =
     let a = accepted s w e in
     let one = (framed-so s new a.frame).one in
@@ -499,7 +499,7 @@ sheet-is s w new b e =
 
 -- So no two of them give equal boxes,
 pub sheets-differ : (s t : List ℕ) (w : World) → is_old s ≡ false → is_old t ≡ false → ((k : ℕ) → byte_at s k < 256) → ((k : ℕ) → byte_at t k < 256)
-    → world_in s ≡ good w → world_in t ≡ good w → s ≡ t
+    → world_in s ≡ Ok w → world_in t ≡ Ok w → s ≡ t
 sheets-differ s t w new new' b c e f = sym (sheet-is s w new b e) ∙ sheet-is t w new' c f
 
 -- and equal boxes have one sheet, whatever is in the drive.
@@ -508,16 +508,16 @@ unfolding boxes_of change_disk
 one-sheet v w e = ap sheet_of e
 
 -- What is accepted is in range: the boxes are those that refusal 1 does not name,
-pub accepted-right : (s : List ℕ) (w : World) → world_in s ≡ good w → wrong_boxes w ≡ false
+pub accepted-right : (s : List ℕ) (w : World) → world_in s ≡ Ok w → wrong_boxes w ≡ false
 accepted-right s w e = (accepted s w e).right
 
 -- there is no disk,
-pub accepted-empty : (s : List ℕ) (w : World) → world_in s ≡ good w → change_disk Empty w ≡ w
+pub accepted-empty : (s : List ℕ) (w : World) → world_in s ≡ Ok w → change_disk Empty w ≡ w
 unfolding change_disk world_from
 accepted-empty s w e = let a = accepted s w e in ap (change_disk Empty) (sym a.from) ∙ a.from
 
 -- and the index fits.
-pub accepted-index : (s : List ℕ) (w : World) → ((k : ℕ) → byte_at s k < 256) → world_in s ≡ good w → w.inside.index < 65536
+pub accepted-index : (s : List ℕ) (w : World) → ((k : ℕ) → byte_at s k < 256) → world_in s ≡ Ok w → w.inside.index < 65536
 unfolding world_from high_at
 accepted-index s w b e =
     let x : List ℕ = (sheet_at s).index in
@@ -557,7 +557,7 @@ no-format false x = go (eqb (length x) 0)
     go false = refl
 
 -- A sheet of version 1 that is accepted gives the Rust machine, and no Format.
-pub old-rust : (s : List ℕ) (w : World) → is_old s ≡ true → world_in s ≡ good w → (w.inside.setting ≡ rust_machine) × (format_box w.inside.write ≡ [])
+pub old-rust : (s : List ℕ) (w : World) → is_old s ≡ true → world_in s ≡ Ok w → (w.inside.setting ≡ rust_machine) × (format_box w.inside.write ≡ [])
 unfolding world_from
 old-rust s w old e =
     let a = accepted s w e in

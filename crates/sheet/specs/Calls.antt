@@ -1,23 +1,21 @@
 -- What the calls that write and read a sheet answer and leave.
-use Rattle.std.specs.Prelude.{◌≡◌, ℕ, ◌+◌, ◌-◌, Bool, true, false, List, [], ◌∷◌, length, take, replicate, leb}
+use Rattle.std.specs.Prelude.{◌≡◌, ℕ, ◌+◌, ◌-◌, Bool, true, false, List, [], ◌∷◌, length, take, replicate, leb, Result, Ok, Err}
 use Rattle.std.proofs.Math.Option.{Option, none, some}
 use Rattle.buffer.specs.Over.{over}
 use Rattle.fields.specs.Capacities.{most_transfer, most_held}
-use Rattle.fields.specs.Refusals.{Result, refused, good, need, after}
+use Rattle.fields.specs.Refusals.{need, after}
 use Rattle.fields.specs.declared.refusal.Refusal.TheVariants.{BadController, NoTransferRoom}
 use Rattle.store.specs.Store.{transfer_room}
-use Rattle.store.specs.declared.answer.Done.{Done}
-use Rattle.store.specs.declared.answer.Done.TheVariants as done
-use Rattle.store.specs.declared.answer.Extent.TheVariants as extent
 use Rattle.store.specs.Calls.{Penned, penned, penned_to}
 use Rattle.registers.specs.declared.regs.Regs.{Regs}
 use Rattle.registers.specs.declared.regs.Pending.{Pending}
-use Rattle.registers.specs.declared.regs.Switched.{Switched}
 use Rattle.registers.specs.Boxes.{Empty, Writing, World}
 use Rattle.registers.specs.View.{inside_of, front_of}
 use Rattle.registers.specs.Settle.{no_pending, track_in, target_in}
 use Rattle.sending.specs.Calls.{impossible_with}
 use Rattle.sheet.specs.Sheets.{machine_byte, sheet_of, wrong_boxes, world_in}
+use Rattle.fields.specs.declared.refusal.Refusal.{Refusal}
+use Rattle.registers.specs.declared.regs.Answered.{Answered}
 
 -- the longest sheet: 36 bytes of numbers and lengths, a command of 8, a reply of 7, all data that can be lent, a write that lacks one byte
 abbrev pub longest_sheet : ℕ
@@ -43,7 +41,7 @@ work_for false p h = []
 
 -- the sheet at the buffer's start, but 1 first
 abbrev pub unless_wrong : Bool → List ℕ → List ℕ → Penned
-unless_wrong true sheet s = penned (extent.Refused BadController) s
+unless_wrong true sheet s = penned (Err BadController) s
 unless_wrong false sheet s = penned_to sheet s
 
 unfoldable pub sheet_written : Regs → List ℕ → List ℕ → List ℕ → Penned
@@ -83,22 +81,22 @@ regs_for w = record {
 }
 
 -- the boxes that a sheet holds; 11, then 9 for unread data over the transfer room
-unfoldable pub taken_from : List ℕ → List ℕ → Result World
-taken_from s x = after (world_in s) (λ w. need (leb (length w.front.unread) (transfer_room x)) NoTransferRoom (good w))
+unfoldable pub taken_from : List ℕ → List ℕ → Result World Refusal
+taken_from s x = after (world_in s) (λ w. need (leb (length w.front.unread) (transfer_room x)) NoTransferRoom (Ok w))
 
 -- that it was read, or the refusal
-abbrev pub whether_taken : Result World → Done
-whether_taken (refused why) = done.Refused why
-whether_taken (good w) = done.Good
+abbrev pub whether_taken : Result World Refusal → Result (Unit {0}) Refusal
+whether_taken (Err why) = Err why
+whether_taken (Ok w) = Ok tt
 
 -- the answer with the registers, the held bytes and the transfer buffer
 pub data Resuming : Type 0 where
-  resuming : Switched → List ℕ → List ℕ → Resuming
+  resuming : Answered (Unit {0}) → List ℕ → List ℕ → Resuming
 
 -- the controller of these boxes, with its unread data at the buffer's start; a refusal leaves all as it came
-abbrev pub resumed_as : Result World → Regs → List ℕ → List ℕ → Resuming
-resumed_as (refused why) r h x = resuming (record { done = done.Refused why; regs = r }) h x
-resumed_as (good w) r h x = resuming (record { done = done.Good; regs = regs_for w }) (held_for w.inside.write) (over x 0 w.front.unread)
+abbrev pub resumed_as : Result World Refusal → Regs → List ℕ → List ℕ → Resuming
+resumed_as (Err why) r h x = resuming (record { answer = Err why; regs = r }) h x
+resumed_as (Ok w) r h x = resuming (record { answer = Ok tt; regs = regs_for w }) (held_for w.inside.write) (over x 0 w.front.unread)
 
 unfoldable pub sheet_read : Regs → List ℕ → List ℕ → List ℕ → Resuming
 sheet_read r h s x = resumed_as (taken_from s x) r h x

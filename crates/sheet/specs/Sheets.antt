@@ -1,9 +1,9 @@
 -- A sheet for every box (02, requests 2026-01 and 2026-06): the boxes of the machine, all but what is in the drive, as bytes, and back.
-use Rattle.std.specs.Prelude.{◌≡◌, ℕ, zero, suc, ◌+◌, ◌*◌, ◌^◌, ◌/◌, ◌%◌, ◌≤◌, ◌<◌, Bool, true, false, not, ◌&&◌, ◌||◌, List, [], ◌∷◌, ◌++◌, length, take, drop, eqb, leb, ltb}
+use Rattle.std.specs.Prelude.{◌≡◌, ℕ, zero, suc, ◌+◌, ◌*◌, ◌^◌, ◌/◌, ◌%◌, ◌≤◌, ◌<◌, Bool, true, false, not, ◌&&◌, ◌||◌, List, [], ◌∷◌, ◌++◌, length, take, drop, eqb, leb, ltb, Result, Ok}
 use Rattle.std.proofs.Math.Option.{Option, none, some}
 use Rattle.fields.specs.Bytes.{byte_at}
 use Rattle.fields.specs.Capacities.{most_transfer}
-use Rattle.fields.specs.Refusals.{Result, good, need}
+use Rattle.fields.specs.Refusals.{need}
 use Rattle.fields.specs.declared.refusal.Refusal.TheVariants.{BadSheet}
 use Rattle.codes.specs.Table.{command_of, bytes_for}
 use Rattle.registers.specs.declared.regs.Goal.{Goal}
@@ -13,6 +13,7 @@ use Rattle.registers.specs.Boxes.{Machine, Rust, DataSheet, Setting, setting_of,
 use Rattle.registers.specs.View.{goal_if, wrong_work}
 use Rattle.layout.specs.Layout.{flag_byte, seek_byte, flag_at, seek_at}
 use Rattle.sheet.specs.declared.reading.Places.{Places}
+use Rattle.fields.specs.declared.refusal.Refusal.{Refusal}
 
 -- ---- Numbers, high byte first
 
@@ -263,10 +264,10 @@ wrong_boxes w =
     || wrong_writing w.inside.setting w.inside.write))
 
 -- the boxes that a sheet holds; 11 where it breaks the form or holds what refusal 1 names
-unfoldable pub world_in : List ℕ → Result World
+unfoldable pub world_in : List ℕ → Result World Refusal
 world_in s =
     let w : World = world_from (sheet_at s) in
-    need (framed s) BadSheet (need (in_range (sheet_at s)) BadSheet (need (not (wrong_boxes w)) BadSheet (good w)))
+    need (framed s) BadSheet (need (in_range (sheet_at s)) BadSheet (need (not (wrong_boxes w)) BadSheet (Ok w)))
 
 -- boxes that can be written out: those that refusal 1 does not name, with an index of two bytes and no more unread data than can be lent
 pub record Writable (w : World) : Type 0 where

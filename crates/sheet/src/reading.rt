@@ -10,14 +10,14 @@ ghost use Rattle.sheet.specs.Sheets.{in_box, either_box, no_write, world_from, w
 ghost use Rattle.sheet.specs.Calls.{on_zeros, pending_for, held_for, regs_for, taken_from, whether_taken, resuming, sheet_read};
 
 use codes::{bytes_for, command_of};
-use fields::{HELD, Refusal, byte};
-use floppy::{Changed, Floppy};
+use fields::{Refusal, byte};
+use floppy::{Floppy, Shown};
 use layout::{flag_at, seek_at};
-use registers::{Drive, Pending, Regs, Switched, Target, goal_of, wrong_work};
-use store::{Done, transfer_room};
+use registers::{Answered, Drive, Pending, Regs, Target, goal_of, wrong_work};
+use store::transfer_room;
 
 // Where the length of each box stands, and where the last box ends.
-#[derive(Clone, Copy)]
+#[derive(Clone, Copy, PartialEq, Eq)]
 pub struct Places {
     pub motor: usize,
     pub cylinder: usize,
@@ -35,34 +35,24 @@ pub struct Places {
 
 // ---- the form
 
-// The number in two bytes, high byte first, and in four; a byte past the end counts as 0.
-fn high_two(s: &[u8], at: usize) -> usize
-    requires { at + 1 < 2 ^ 64 }
-    ensures { (result ≡ high_at 2 s.now at) × (result < 65536) }
+// The number in so many bytes, high byte first; a byte past the end counts as 0.
+fn high_at(s: &[u8], at: usize, width: usize) -> usize
+    requires { (width ≤ 4) × (at + width < 2 ^ 64) }
+    ensures { (result ≡ high_at width s.now at) × (result < 256 ^ width) }
 {
-    256 * byte(s, at) + byte(s, at + 1)
+    let mut n = 0;
+    for k in 0..width {
+        n = 256 * n + byte(s, at + k);
+    }
+    n
 }
 
-fn high_four(s: &[u8], at: usize) -> usize
-    requires { at + 3 < 2 ^ 64 }
-    ensures { (result ≡ high_at 4 s.now at) × (result < 4294967296) }
+// The place behind a box whose length takes so many bytes.
+fn behind(s: &[u8], at: usize, width: usize) -> usize
+    requires { (width ≤ 4) × (at < 2 ^ 40) }
+    ensures { (result ≡ behind width s.now at) × (result < at + width + 256 ^ width) }
 {
-    65536 * high_two(s, at) + high_two(s, at + 2)
-}
-
-// The place behind a box whose length takes two bytes, and four.
-fn behind_two(s: &[u8], at: usize) -> usize
-    requires { at < 2 ^ 40 }
-    ensures { (result ≡ behind 2 s.now at) × (result < at + 65538) }
-{
-    at + 2 + high_two(s, at)
-}
-
-fn behind_four(s: &[u8], at: usize) -> usize
-    requires { at < 2 ^ 40 }
-    ensures { (result ≡ behind 4 s.now at) × (result < at + 4294967300) }
-{
-    at + 4 + high_four(s, at)
+    at + width + high_at(s, at, width)
 }
 
 // The place behind a box that version 1 does not have.
@@ -70,10 +60,7 @@ fn behind_new(s: &[u8], old: bool, at: usize) -> usize
     requires { at < 2 ^ 40 }
     ensures { (result ≡ behind_new old s.now at) × (result < at + 65538) }
 {
-    if old {
-        return at;
-    }
-    behind_two(s, at)
+    if old { at } else { behind(s, at, 2) }
 }
 
 // Whether it is a sheet of version 1.
@@ -88,15 +75,15 @@ fn locate(s: &[u8]) -> Places
     ensures { result ≡ places_of s.now }
 {
     let motor = 5;
-    let cylinder = behind_two(s, motor);
-    let seek = behind_two(s, cylinder);
-    let index = behind_two(s, seek);
-    let command = behind_two(s, index);
-    let reply = behind_two(s, command);
-    let unread = behind_two(s, reply);
-    let lost = behind_four(s, unread);
-    let write = behind_two(s, lost);
-    let machine = behind_two(s, write);
+    let cylinder = behind(s, motor, 2);
+    let seek = behind(s, cylinder, 2);
+    let index = behind(s, seek, 2);
+    let command = behind(s, index, 2);
+    let reply = behind(s, command, 2);
+    let unread = behind(s, reply, 2);
+    let lost = behind(s, unread, 4);
+    let write = behind(s, lost, 2);
+    let machine = behind(s, write, 2);
     let old = is_old(s);
     let format = behind_new(s, old, machine);
     let end = behind_new(s, old, format);
@@ -116,38 +103,22 @@ fn locate(s: &[u8]) -> Places
     }
 }
 
-// The bytes of a box whose length takes two bytes, and four; fewer where the sheet ends first.
-fn box_two<'a>(s: &'a [u8], at: usize) -> &'a [u8]
-    ensures { result.now ≡ box_at 2 s.now at }
+// The bytes of a box whose length takes so many bytes; fewer where the sheet ends first.
+fn box_at<'a>(s: &'a [u8], at: usize, width: usize) -> &'a [u8]
+    requires { width ≤ 4 }
+    ensures { result.now ≡ box_at width s.now at }
 {
     let rest = buffer::tail(s, at);
-    buffer::part(rest, 2, high_two(rest, 0))
-}
-
-fn box_four<'a>(s: &'a [u8], at: usize) -> &'a [u8]
-    ensures { result.now ≡ box_at 4 s.now at }
-{
-    let rest = buffer::tail(s, at);
-    buffer::part(rest, 4, high_four(rest, 0))
+    buffer::part(rest, width, high_at(rest, 0, width))
 }
 
 // ---- the boxes
-
-// The byte that a box begins with, 0 where it is empty.
-fn first(x: &[u8]) -> u8
-    ensures { result ≡ byte_at x.now 0 }
-{
-    byte(x, 0) as u8
-}
 
 // Whether a box is a number of one byte, up to a greatest.
 fn one_to(x: &[u8], most: u8) -> bool
     ensures { result ≡ one_to most x.now }
 {
-    if x.len() != 1 {
-        return false;
-    }
-    x[0] <= most
+    x.len() == 1 && x[0] <= most
 }
 
 // Whether version and lengths are those of a sheet, whose last box ends where the bytes do, and one of version 2 has a machine.
@@ -155,38 +126,32 @@ fn is_framed(s: &[u8], p: Places) -> bool
     requires { p ≡ places_of s.now }
     ensures { result ≡ framed s.now }
 {
-    let version = byte(s, 0);
-    let old = version == 1;
-    let new = version == 2;
-    let machine = one_to(box_two(s, p.machine), 1);
-    let rest = 5 + high_four(s, 1) == s.len();
-    let last = p.end == s.len();
-    (old | (new & machine)) & (rest & last)
+    (is_old(s) || byte(s, 0) == 2 && one_to(box_at(s, p.machine, 2), 1))
+        && 5 + high_at(s, 1, 4) == s.len()
+        && p.end == s.len()
 }
 
 // Whether the box of a write, or of a Format, is empty, or has its five numbers.
 fn is_work(x: &[u8]) -> bool
     ensures { result ≡ is_work x.now }
 {
-    if x.len() == 0 {
-        return true;
-    }
-    5 <= x.len()
+    x.is_empty() || 5 <= x.len()
 }
 
 // Whether every number is as long as it must be, and motor and seek state are in their range.
 fn in_range(s: &[u8], p: Places) -> bool
     ensures { result ≡ in_range (boxes_at s.now p) }
 {
-    let motor = one_to(box_two(s, p.motor), 1);
-    let cylinder = box_two(s, p.cylinder).len() == 1;
-    let seek = one_to(box_two(s, p.seek), 2);
-    let index = box_two(s, p.index).len() == 2;
-    let lost = box_two(s, p.lost).len() == 1;
-    let write = box_two(s, p.write);
-    let format = box_two(s, p.format);
-    let alone = (write.len() == 0) | (format.len() == 0);
-    motor & (cylinder & (seek & (index & (lost & (is_work(write) & (is_work(format) & alone))))))
+    let write = box_at(s, p.write, 2);
+    let format = box_at(s, p.format, 2);
+    one_to(box_at(s, p.motor, 2), 1)
+        && box_at(s, p.cylinder, 2).len() == 1
+        && one_to(box_at(s, p.seek, 2), 2)
+        && box_at(s, p.index, 2).len() == 2
+        && box_at(s, p.lost, 2).len() == 1
+        && is_work(write)
+        && is_work(format)
+        && (write.is_empty() || format.is_empty())
 }
 
 // The four numbers in the box of a write, or of a Format.
@@ -207,15 +172,14 @@ fn pending_from(track: bool, x: &[u8]) -> Pending
     requires { (is_work x.now ≡ true) × (length x.now < 65536) }
     ensures { result ≡ pending_for (in_box track x.now) }
 {
-    if x.len() == 0 {
+    if x.is_empty() {
         return Pending::none();
     }
-    let target = target_in(x);
     Pending {
         on: true,
         c1: x[0],
         track,
-        target,
+        target: target_in(x),
         taken: (x.len() - 5) as u16,
     }
 }
@@ -224,16 +188,17 @@ fn pending_from(track: bool, x: &[u8]) -> Pending
 fn no_write(s: &[u8], p: Places) -> bool
     ensures { result ≡ no_write (boxes_at s.now p) }
 {
-    box_two(s, p.write).len() == 0
+    box_at(s, p.write, 2).is_empty()
 }
 
 fn work_box<'a>(s: &'a [u8], p: Places) -> &'a [u8]
     ensures { result.now ≡ either_box (no_write (boxes_at s.now p)) (box_at 2 s.now p.write) (box_at 2 s.now p.format) }
 {
     if no_write(s, p) {
-        return box_two(s, p.format);
+        box_at(s, p.format, 2)
+    } else {
+        box_at(s, p.write, 2)
     }
-    box_two(s, p.write)
 }
 
 // A write or a Format that no controller has with this setting.
@@ -241,20 +206,14 @@ fn wrong_box(setting: u8, track: bool, x: &[u8]) -> bool
     requires { is_work x.now ≡ true }
     ensures { result ≡ wrong_writing (setting_of setting) (in_box track x.now) }
 {
-    if x.len() == 0 {
-        return false;
-    }
-    wrong_work(setting, x[0], goal_of(track, target_in(x)), x.len() - 5)
+    !x.is_empty() && wrong_work(setting, x[0], goal_of(track, target_in(x)), x.len() - 5)
 }
 
 // A command that is as long as it has bytes, or longer. Where nothing was sent, no table is asked.
 fn wrong_command(x: &[u8]) -> bool
     ensures { result ≡ leb (bytes_for (command_of (byte_at x.now 0))) (length x.now) }
 {
-    if x.len() == 0 {
-        return false;
-    }
-    bytes_for(command_of(x[0])) as usize <= x.len()
+    !x.is_empty() && bytes_for(command_of(x[0])) as usize <= x.len()
 }
 
 // Boxes that no controller has.
@@ -262,33 +221,22 @@ fn wrong_boxes(s: &[u8], p: Places) -> bool
     requires { in_range (boxes_at s.now p) ≡ true }
     ensures { result ≡ wrong_boxes (world_from (boxes_at s.now p)) }
 {
-    let reply = 7 < box_two(s, p.reply).len();
-    let command = wrong_command(box_two(s, p.command));
-    let lost = 2 < first(box_two(s, p.lost));
-    let setting = first(box_two(s, p.machine));
-    let write = wrong_box(setting, no_write(s, p), work_box(s, p));
-    reply | (command | (lost | write))
+    7 < box_at(s, p.reply, 2).len()
+        || wrong_command(box_at(s, p.command, 2))
+        || 2 < number_in(s, p.lost)
+        || wrong_box(number_in(s, p.machine), no_write(s, p), work_box(s, p))
 }
 
 // ---- the controller
 
-// The command and the reply, with zeros behind them.
-fn command_from(x: &[u8]) -> [u8; 9]
-    requires { length x.now ≤ 9 }
-    ensures { result ≡ on_zeros 9 x.now }
+// The bytes of a box, with zeros behind them.
+fn on_zeros<const N: usize>(x: &[u8]) -> [u8; N]
+    requires { length x.now ≤ N }
+    ensures { result ≡ on_zeros N x.now }
 {
-    let mut command = [0u8; 9];
-    buffer::copy_in(&mut command, 0, x);
-    command
-}
-
-fn reply_from(x: &[u8]) -> [u8; 7]
-    requires { length x.now ≤ 7 }
-    ensures { result ≡ on_zeros 7 x.now }
-{
-    let mut reply = [0u8; 7];
-    buffer::copy_in(&mut reply, 0, x);
-    reply
+    let mut zeros = [0; N];
+    buffer::copy_in(&mut zeros, 0, x);
+    zeros
 }
 
 // The bytes that it holds, with zeros behind them.
@@ -296,21 +244,21 @@ fn lay_held(x: &[u8], held: &mut [u8])
     requires { (length held.old ≡ most_held) × (length x.now ≤ 5 + most_held) }
     ensures { (track : Bool) → held.new ≡ held_for (in_box track x.now) }
 {
-    buffer::fill(held, 0, HELD, 0);
+    held.fill(0);
     buffer::copy_in(held, 0, buffer::tail(x, 5));
 }
 
-// The number in a box of one byte, and of two.
+// The number in a box of one byte, and of two: each of its own type.
 fn number_in(s: &[u8], at: usize) -> u8
     ensures { result ≡ byte_at (box_at 2 s.now at) 0 }
 {
-    first(box_two(s, at))
+    byte(box_at(s, at, 2), 0) as u8
 }
 
 fn index_in(s: &[u8], at: usize) -> u16
     ensures { result ≡ high_at 2 (box_at 2 s.now at) 0 }
 {
-    high_two(box_two(s, at), 0) as u16
+    high_at(box_at(s, at, 2), 0, 2) as u16
 }
 
 // The drive, with no disk in it.
@@ -334,13 +282,13 @@ fn regs_from(s: &[u8], p: Places) -> Regs
     requires unread_len_bound { length (box_at 4 s.now p.unread) ≤ most_transfer }
     ensures { result ≡ regs_for (world_from (boxes_at s.now p)) }
 {
-    let command = box_two(s, p.command);
-    let reply = box_two(s, p.reply);
-    let unread = box_four(s, p.unread);
+    let command = box_at(s, p.command, 2);
+    let reply = box_at(s, p.reply, 2);
+    let unread = box_at(s, p.unread, 4);
     Regs {
-        command: command_from(command),
+        command: on_zeros(command),
         count: command.len() as u8,
-        reply: reply_from(reply),
+        reply: on_zeros(reply),
         place: 0,
         fill: reply.len() as u8,
         from: 0,
@@ -355,56 +303,45 @@ fn regs_from(s: &[u8], p: Places) -> Regs
 }
 
 // Whether these bytes are a sheet, and their unread data fit the transfer room.
-fn judge(s: &[u8], p: Places, transfer: &[u8]) -> Done
+fn judge(s: &[u8], p: Places, transfer: &[u8]) -> Result<(), Refusal>
     requires { p ≡ places_of s.now }
     ensures { result ≡ whether_taken (taken_from s.now transfer.now) }
 {
-    if !is_framed(s, p) {
-        return Done::Refused(Refusal::BadSheet);
+    if !is_framed(s, p) || !in_range(s, p) || wrong_boxes(s, p) {
+        return Err(Refusal::BadSheet);
     }
-    if !in_range(s, p) {
-        return Done::Refused(Refusal::BadSheet);
+    if transfer_room(transfer) < box_at(s, p.unread, 4).len() {
+        return Err(Refusal::NoTransferRoom);
     }
-    if wrong_boxes(s, p) {
-        return Done::Refused(Refusal::BadSheet);
-    }
-    if transfer_room(transfer) < box_four(s, p.unread).len() {
-        return Done::Refused(Refusal::NoTransferRoom);
-    }
-    Done::Good
+    Ok(())
 }
 
 // Reads a sheet, which all of `sheet` is: the registers, with no disk; the held bytes, and unread data from the transfer
 // buffer's start, where bytes behind them stay. 11 for bytes that are no sheet, then 9 for unread data over the transfer
 // room; both leave all as it came.
-pub fn read_parts(regs: Regs, held: &mut [u8], sheet: &[u8], transfer: &mut [u8]) -> Switched
+pub fn read_parts(regs: Regs, held: &mut [u8], sheet: &[u8], transfer: &mut [u8]) -> Answered<()>
     requires { length held.old ≡ most_held }
     ensures { resuming result held.new transfer.new
         ≡ sheet_read regs held.old sheet.now transfer.old }
 {
     let p = locate(sheet);
-    let done = judge(sheet, p, transfer);
-    match done {
-        Done::Refused(_) => Switched { done, regs },
-        Done::Good => {
-            lay_held(work_box(sheet, p), held);
-            buffer::copy_in(transfer, 0, box_four(sheet, p.unread));
-            let after = regs_from(sheet, p);
-            Switched { done, regs: after }
-        }
+    if let Err(why) = judge(sheet, p, transfer) {
+        return regs.refused(why);
     }
+    lay_held(work_box(sheet, p), held);
+    buffer::copy_in(transfer, 0, box_at(sheet, p.unread, 4));
+    regs_from(sheet, p).answered(())
 }
 
 // The same for a whole controller, which comes back as it was where the sheet is refused.
-pub fn read(floppy: Floppy, sheet: &[u8], transfer: &mut [u8]) -> Changed
-    ensures { resuming (record { done = result.done; regs = result.floppy.regs }) result.floppy.held transfer.new
+pub fn read(floppy: Floppy, sheet: &[u8], transfer: &mut [u8]) -> Shown<()>
+    ensures { resuming (record { answer = result.answer; regs = result.floppy.regs }) result.floppy.held transfer.new
         ≡ sheet_read floppy.regs floppy.held sheet.now transfer.old }
 {
-    let regs = floppy.regs;
     let mut held = floppy.held;
-    let a = read_parts(regs, &mut held, sheet, transfer);
-    let done = a.done;
-    let after = a.regs;
-    let floppy = Floppy { regs: after, held };
-    Changed { done, floppy }
+    let Answered { answer, regs } = read_parts(floppy.regs, &mut held, sheet, transfer);
+    Shown {
+        answer,
+        floppy: Floppy { regs, held },
+    }
 }

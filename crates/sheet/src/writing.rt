@@ -13,7 +13,6 @@ use fields::{HELD, Refusal, TRANSFER};
 use floppy::Floppy;
 use layout::{flag_byte, seek_byte};
 use registers::{Pending, Regs};
-use store::Extent;
 
 // No sheet is longer.
 pub const LONGEST: usize = 36 + 8 + 7 + TRANSFER + 5 + (HELD - 1);
@@ -23,8 +22,6 @@ fn opening(r: Regs, rest: usize) -> [u8; 18]
     ensures { result ≡ sheet_version ∷ high_for 4 rest (box_for 2 (flag_byte r.motor ∷ []) (box_for 2 (r.drive.cylinder ∷ [])
         (box_for 2 (seek_byte r.drive.seek ∷ []) (box_for 2 (high_for 2 r.index []) [])))) }
 {
-    let d = r.drive;
-    let s = d.seek;
     let i = r.index;
     [
         2,
@@ -37,10 +34,10 @@ fn opening(r: Regs, rest: usize) -> [u8; 18]
         flag_byte(r.motor),
         0,
         1,
-        d.cylinder,
+        r.drive.cylinder,
         0,
         1,
-        seek_byte(s),
+        seek_byte(r.drive.seek),
         0,
         2,
         (i / 256 % 256) as u8,
@@ -48,35 +45,17 @@ fn opening(r: Regs, rest: usize) -> [u8; 18]
     ]
 }
 
-// Lays a box at a place, its length in two bytes first, and answers the place behind it.
-fn put(sheet: &mut [u8], at: usize, x: &[u8]) -> usize
-    requires { at + 2 + length x.now ≤ length sheet.old }
-    ensures { (sheet.new ≡ over sheet.old at (box_for 2 x.now []))
-        × (result ≡ at + 2 + length x.now) }
+// Lays a box at a place, its length in so many bytes first, and answers the place behind it.
+fn put(sheet: &mut [u8], at: usize, width: usize, x: &[u8]) -> usize
+    requires width_bound { width ≤ 4 }
+    requires room { at + width + length x.now ≤ length sheet.old }
+    ensures { (sheet.new ≡ over sheet.old at (box_for width x.now []))
+        × (result ≡ at + width + length x.now) }
 {
-    let n = x.len();
-    let head = [(n / 256 % 256) as u8, (n % 256) as u8];
-    buffer::copy_in(sheet, at, &head);
-    buffer::copy_in(sheet, at + 2, x);
-    at + 2 + n
-}
-
-// The same for unread data, whose length takes four bytes.
-fn put_long(sheet: &mut [u8], at: usize, x: &[u8]) -> usize
-    requires { at + 4 + length x.now ≤ length sheet.old }
-    ensures { (sheet.new ≡ over sheet.old at (box_for 4 x.now []))
-        × (result ≡ at + 4 + length x.now) }
-{
-    let n = x.len();
-    let head = [
-        (n / 256 / 256 / 256 % 256) as u8,
-        (n / 256 / 256 % 256) as u8,
-        (n / 256 % 256) as u8,
-        (n % 256) as u8,
-    ];
-    buffer::copy_in(sheet, at, &head);
-    buffer::copy_in(sheet, at + 4, x);
-    at + 4 + n
+    let n = x.len().to_be_bytes();
+    buffer::copy_in(sheet, at, &n[8 - width..]);
+    buffer::copy_in(sheet, at + width, x);
+    at + width + x.len()
 }
 
 // Lays the box of a write in progress, c1, its four numbers and the bytes so far, if it is to stand here, else an empty one, and answers the place
@@ -88,7 +67,7 @@ fn put_work(sheet: &mut [u8], at: usize, here: bool, p: Pending, held: &[u8]) ->
         × (result ≡ at + 2 + length (work_for here p held.now)) }
 {
     if !here {
-        return put(sheet, at, &[]);
+        return put(sheet, at, 2, &[]);
     }
     let taken = p.taken as usize;
     let n = 5 + taken;
@@ -116,8 +95,9 @@ fn lay_works(r: Regs, held: &[u8], at: usize, sheet: &mut [u8])
         (box_for 2 (r.setting % 2 ∷ []) (box_for 2 (format_box (writing_if r.write.on r.write held.now)) []))) }
 {
     let p = r.write;
+    // `&` has no branch: behind `&&` each call's room would have to be shown for two ways that lead there.
     let machine = put_work(sheet, at, p.on & !p.track, p, held);
-    let format = put(sheet, machine, &[r.setting % 2]);
+    let format = put(sheet, machine, 2, &[r.setting % 2]);
     put_work(sheet, format, p.on & p.track, p, held);
 }
 
@@ -125,10 +105,7 @@ fn lay_works(r: Regs, held: &[u8], at: usize, sheet: &mut [u8])
 fn write_size(p: Pending) -> usize
     ensures { result ≡ cond p.on (5 + p.taken) 0 }
 {
-    if p.on {
-        return 5 + p.taken as usize;
-    }
-    0
+    if p.on { 5 + p.taken as usize } else { 0 }
 }
 
 fn size(r: Regs) -> usize
@@ -152,15 +129,9 @@ fn lay_first(r: Regs, rest: usize, sheet: &mut [u8]) -> usize
         (box_for 2 (take r.count r.command) (box_for 2 (slice r.place r.fill r.reply) []))))))))
         × (result ≡ 22 + r.count + (r.fill - r.place)) }
 {
-    let command = r.command;
-    let reply = r.reply;
-    let count = r.count as usize;
-    let place = r.place as usize;
-    let fill = r.fill as usize;
-    let first = opening(r, rest);
-    buffer::copy_in(sheet, 0, &first);
-    let next = put(sheet, 18, &command[..count]);
-    put(sheet, next, &reply[place..fill])
+    buffer::copy_in(sheet, 0, &opening(r, rest));
+    let next = put(sheet, 18, 2, &r.command[..r.count as usize]);
+    put(sheet, next, 2, &r.reply[r.place as usize..r.fill as usize])
 }
 
 // Lays the unread data, the lost count, the write, the machine and the Format.
@@ -172,10 +143,8 @@ fn lay_rest(r: Regs, held: &[u8], transfer: &[u8], at: usize, sheet: &mut [u8])
         (box_for 2 (r.lost ∷ []) (box_for 2 (write_box (writing_if r.write.on r.write held.now))
         (box_for 2 (r.setting % 2 ∷ []) (box_for 2 (format_box (writing_if r.write.on r.write held.now)) []))))) }
 {
-    let from = r.from as usize;
-    let until = r.until as usize;
-    let next = put_long(sheet, at, &transfer[from..until]);
-    let last = put(sheet, next, &[r.lost]);
+    let next = put(sheet, at, 4, &transfer[r.from as usize..r.until as usize]);
+    let last = put(sheet, next, 2, &[r.lost]);
     lay_works(r, held, last, sheet);
 }
 
@@ -193,33 +162,28 @@ fn lay(r: Regs, held: &[u8], transfer: &[u8], n: usize, sheet: &mut [u8])
 fn impossible_with(r: Regs, held: &[u8], transfer: &[u8]) -> bool
     ensures { result ≡ impossible_with held.now transfer.now r }
 {
-    if held.len() != HELD {
-        return true;
-    }
-    r.impossible_in(transfer)
+    held.len() != HELD || r.impossible_in(transfer)
 }
 
 // Writes the sheet of registers and held bytes to the buffer's start; bytes behind it stay. 1 for numbers that no
 // controller has, then 13 for a buffer that is too short; both leave it as it came.
-pub fn write_parts(r: Regs, held: &[u8], transfer: &[u8], sheet: &mut [u8]) -> Extent
+pub fn write_parts(r: Regs, held: &[u8], transfer: &[u8], sheet: &mut [u8]) -> Result<u32, Refusal>
     ensures { penned result sheet.new ≡ sheet_written r held.now transfer.now sheet.old }
 {
     if impossible_with(r, held, transfer) {
-        return Extent::Refused(Refusal::BadController);
+        return Err(Refusal::BadController);
     }
     let n = size(r);
     if sheet.len() < n {
-        return Extent::Refused(Refusal::ShortBuffer);
+        return Err(Refusal::ShortBuffer);
     }
     lay(r, held, transfer, n, sheet);
-    Extent::Of(n as u32)
+    Ok(n as u32)
 }
 
 // The same for a whole controller.
-pub fn write(floppy: Floppy, transfer: &[u8], sheet: &mut [u8]) -> Extent
+pub fn write(floppy: Floppy, transfer: &[u8], sheet: &mut [u8]) -> Result<u32, Refusal>
     ensures { penned result sheet.new ≡ sheet_written floppy.regs floppy.held transfer.now sheet.old }
 {
-    let regs = floppy.regs;
-    let held = floppy.held;
-    write_parts(regs, &held, transfer, sheet)
+    write_parts(floppy.regs, &floppy.held, transfer, sheet)
 }

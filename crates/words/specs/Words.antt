@@ -1,43 +1,33 @@
 -- The answer word: the byte in bits 0 to 7, the refusal number in bits 8 to 15, above them what each call says. A refused call answers its number alone.
-use Rattle.std.specs.Prelude.{ℕ, ◌+◌, ◌*◌, ◌^◌, Bool, true, false}
+use Rattle.std.specs.Prelude.{ℕ, ◌+◌, ◌*◌, ◌^◌, Bool, true, false, Result, Ok, Err, Option, Some, None}
 use Rattle.fields.specs.Refusals.{number_of}
 use Rattle.fields.specs.declared.refusal.Refusal.{Refusal}
 use Rattle.store.specs.declared.answer.Match.{Match}
-use Rattle.store.specs.declared.answer.Has.{Has}
-use Rattle.store.specs.declared.answer.Has.TheVariants as has
 use Rattle.store.specs.declared.answer.Geometry.{Geometry}
-use Rattle.store.specs.declared.answer.Geometry.TheVariants as geometry
-use Rattle.store.specs.declared.answer.Done.{Done}
-use Rattle.store.specs.declared.answer.Done.TheVariants as done
 use Rattle.registers.specs.declared.regs.Report.{Report}
-use Rattle.registers.specs.declared.regs.Receipt.{Receipt}
-use Rattle.registers.specs.declared.regs.Receipt.TheVariants as receipt
-use Rattle.registers.specs.declared.regs.Byte.{Byte}
-use Rattle.registers.specs.declared.regs.Byte.TheVariants as byte
-use Rattle.registers.specs.declared.regs.Flag.{Flag}
-use Rattle.registers.specs.declared.regs.Flag.TheVariants as flag
-use Rattle.store.specs.declared.answer.Extent.{Extent}
-use Rattle.store.specs.declared.answer.Extent.TheVariants as extent
 
 abbrev pub refusal_word : Refusal → ℕ
 refusal_word why = 256 * number_of why
 
-abbrev pub byte_word : Byte → ℕ
-byte_word (byte.Of b) = b
-byte_word (byte.Refused why) = refusal_word why
+-- the word of an answer, by that of its value
+abbrev pub answer_word : {A : Type 0} → (A → ℕ) → Result A Refusal → ℕ
+answer_word word (Ok v) = word v
+answer_word word (Err why) = refusal_word why
+
+abbrev pub byte_word : Result ℕ Refusal → ℕ
+byte_word = answer_word (λ b. b)
 
 -- yes is 1, no is 0
 abbrev pub bool_word : Bool → ℕ
 bool_word false = 0
 bool_word true = 1
 
-abbrev pub flag_word : Flag → ℕ
-flag_word (flag.Of f) = bool_word f
-flag_word (flag.Refused why) = refusal_word why
+abbrev pub flag_word : Result Bool Refusal → ℕ
+flag_word = answer_word bool_word
 
-abbrev pub done_word : Done → ℕ
-done_word done.Good = 0
-done_word (done.Refused why) = refusal_word why
+-- a call that answers nothing
+abbrev pub done_word : Result (Unit {0}) Refusal → ℕ
+done_word = answer_word (λ done. 0)
 
 -- which sector was served: its place in the track in bits 16 to 23, how many bear its ID in bits 24 to 31 (2026-05)
 abbrev pub match_word : Match → ℕ
@@ -47,21 +37,27 @@ match_word m = m.place * 2 ^ 16 + m.count * 2 ^ 24
 abbrev pub report_word : Report → ℕ
 report_word x = match_word x.sector
 
-abbrev pub receipt_word : Receipt → ℕ
-receipt_word (receipt.Good x) = report_word x
-receipt_word (receipt.Refused why) = refusal_word why
+abbrev pub receipt_word : Result Report Refusal → ℕ
+receipt_word = answer_word report_word
 
-abbrev pub has_word : Has → ℕ
-has_word (has.Yes m) = 1 + match_word m
-has_word has.No = 0
-has_word (has.Refused why) = refusal_word why
+-- whether there is a sector, and which
+abbrev pub found_word : Option Match → ℕ
+found_word (Some m) = 1 + match_word m
+found_word None = 0
+
+abbrev pub has_word : Result (Option Match) Refusal → ℕ
+has_word = answer_word found_word
 
 -- the greatest cylinder of side 0 in bits 0 to 7, of the other sides in bits 16 to 23
-abbrev pub geometry_word : Geometry → ℕ
-geometry_word (geometry.Of c0 c1) = c0 + 65536 * c1
-geometry_word (geometry.Refused why) = refusal_word why
+abbrev pub sides_word : Geometry → ℕ
+sides_word g = g.c0 + 65536 * g.c1
+
+abbrev pub geometry_word : Result Geometry Refusal → ℕ
+geometry_word = answer_word sides_word
 
 -- the length of what is written in bits 32 to 63
-abbrev pub extent_word : Extent → ℕ
-extent_word (extent.Of n) = n * 2 ^ 32
-extent_word (extent.Refused why) = refusal_word why
+abbrev pub length_word : ℕ → ℕ
+length_word n = n * 2 ^ 32
+
+abbrev pub extent_word : Result ℕ Refusal → ℕ
+extent_word = answer_word length_word

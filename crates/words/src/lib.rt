@@ -3,7 +3,4 @@
 
 mod word;
 
-pub use word::{
-    byte_word, done_word, extent_word, flag_word, geometry_word, has_word, match_word,
-    receipt_word, refusal_word, wide,
-};
+pub use word::{Word, answer_word, match_word, refusal_word};

@@ -1,103 +1,100 @@
 // The answer word of each kind of answer.
-ghost use Rattle.std.specs.Prelude.{◌≡◌, ◌<◌};
-ghost use Rattle.words.specs.Words.{refusal_word, bool_word, byte_word, flag_word, done_word, match_word, report_word, receipt_word, has_word, geometry_word, extent_word};
+ghost use Rattle.std.specs.Prelude.{◌≡◌, ℕ, ◌<◌};
+ghost use Rattle.words.specs.Words.{refusal_word, answer_word, bool_word, match_word, report_word, found_word, sides_word, length_word};
 
 use fields::Refusal;
-use registers::{Byte, Flag, Receipt, Report};
-use store::{Done, Extent, Geometry, Has, Match};
+use registers::Report;
+use store::{Geometry, Match};
 
-pub fn wide(b: u8) -> u64
-    ensures { result ≡ b }
-{
-    b as u64
+// What an exported call answers with, as the word that tells it.
+pub trait Word {
+    ghost word: { Self → ℕ };
+
+    fn word(self) -> u64
+        ensures { result ≡ word self };
+}
+
+impl Word for u8 {
+    ghost word = { λ b. b };
+
+    fn word(self) -> u64 {
+        u64::from(self)
+    }
+}
+
+impl Word for bool {
+    ghost word = { bool_word };
+
+    fn word(self) -> u64 {
+        self as u64
+    }
+}
+
+// Nothing is answered.
+impl Word for () {
+    ghost word = { λ done. 0 };
+
+    fn word(self) -> u64 {
+        0
+    }
+}
+
+impl Word for Report {
+    ghost word = { report_word };
+
+    fn word(self) -> u64 {
+        match_word(self.sector)
+    }
+}
+
+// Whether there is a sector, and which.
+impl Word for Option<Match> {
+    ghost word = { found_word };
+
+    fn word(self) -> u64 {
+        match self {
+            Some(m) => 1 + match_word(m),
+            None => 0,
+        }
+    }
+}
+
+impl Word for Geometry {
+    ghost word = { sides_word };
+
+    fn word(self) -> u64 {
+        u64::from(self.c0) + 65536 * u64::from(self.c1)
+    }
+}
+
+// A length.
+impl Word for u32 {
+    ghost word = { length_word };
+
+    fn word(self) -> u64 {
+        4294967296 * u64::from(self)
+    }
 }
 
 pub fn refusal_word(why: Refusal) -> u64
     ensures { result ≡ refusal_word why }
 {
-    256 * wide(why.number())
-}
-
-fn bool_word(f: bool) -> u64
-    ensures { result ≡ bool_word f }
-{
-    if f { 1 } else { 0 }
-}
-
-pub fn byte_word(a: Byte) -> u64
-    ensures { result ≡ byte_word a }
-{
-    match a {
-        Byte::Of(b) => wide(b),
-        Byte::Refused(why) => refusal_word(why),
-    }
-}
-
-pub fn flag_word(a: Flag) -> u64
-    ensures { result ≡ flag_word a }
-{
-    match a {
-        Flag::Of(f) => bool_word(f),
-        Flag::Refused(why) => refusal_word(why),
-    }
-}
-
-pub fn done_word(a: Done) -> u64
-    ensures { result ≡ done_word a }
-{
-    match a {
-        Done::Good => 0,
-        Done::Refused(why) => refusal_word(why),
-    }
+    256 * u64::from(why.number())
 }
 
 // Which sector was served, in bits 16 to 31.
 pub fn match_word(m: Match) -> u64
     ensures { (result ≡ match_word m) × (result < 4294967296) }
 {
-    wide(m.place) * 65536 + wide(m.count) * 16777216
+    u64::from(m.place) * 65536 + u64::from(m.count) * 16777216
 }
 
-// What the host is told.
-fn report_word(report: Report) -> u64
-    ensures { result ≡ report_word report }
+// The word of an answer, or of its refusal.
+pub fn answer_word<T: Word>(answer: Result<T, Refusal>) -> u64
+    ensures { result ≡ answer_word T.word answer }
 {
-    match_word(report.sector)
-}
-
-pub fn receipt_word(a: Receipt) -> u64
-    ensures { result ≡ receipt_word a }
-{
-    match a {
-        Receipt::Good(report) => report_word(report),
-        Receipt::Refused(why) => refusal_word(why),
-    }
-}
-
-pub fn has_word(a: Has) -> u64
-    ensures { result ≡ has_word a }
-{
-    match a {
-        Has::Yes(m) => 1 + match_word(m),
-        Has::No => 0,
-        Has::Refused(why) => refusal_word(why),
-    }
-}
-
-pub fn geometry_word(a: Geometry) -> u64
-    ensures { result ≡ geometry_word a }
-{
-    match a {
-        Geometry::Of(c0, c1) => wide(c0) + 65536 * wide(c1),
-        Geometry::Refused(why) => refusal_word(why),
-    }
-}
-
-pub fn extent_word(a: Extent) -> u64
-    ensures { result ≡ extent_word a }
-{
-    match a {
-        Extent::Of(n) => (n as u64) * 4294967296,
-        Extent::Refused(why) => refusal_word(why),
+    match answer {
+        Ok(v) => v.word(),
+        Err(why) => refusal_word(why),
     }
 }

@@ -3,4 +3,4 @@ use mathlib.Core.Path.{ap, ◌∙◌}
 use Rattle.host.proofs.disk_geometry.Goals as goal
 
 pub returns : goal.returns
-returns c = c.geometry_word.ensures ∙ ap geometry_word c.geometry.ensures
+returns c = c.answer_word.ensures ∙ ap geometry_word c.geometry.ensures

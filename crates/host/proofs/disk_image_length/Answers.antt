@@ -5,4 +5,4 @@ use Rattle.host.proofs.disk_image_length.Goals as goal
 
 pub returns : goal.returns
 unfolding image_length_on
-returns c = c.extent_word.ensures ∙ ap extent_word c.image_length.ensures
+returns c = c.answer_word.ensures ∙ ap extent_word c.image_length.ensures

@@ -5,4 +5,4 @@ use mathlib.Core.Path.{ap, ◌∙◌}
 use Rattle.host.proofs.disk_new.Goals as goal
 
 pub returns : goal.returns
-returns c = ap (λ (w : ℕ). outcome w c.new.new.table c.new.new.bytes) c.done_word.ensures ∙ ap worded c.new.ensures
+returns c = ap (λ (w : ℕ). outcome w c.new.new.table c.new.new.bytes) c.answer_word.ensures ∙ ap worded c.new.ensures

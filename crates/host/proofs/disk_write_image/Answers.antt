@@ -5,4 +5,4 @@ use Rattle.host.proofs.disk_write_image.Goals as goal
 
 pub returns : goal.returns
 unfolding write_image_on
-returns c = ap (λ (w : ℕ). answered w c.write_image.new.image) c.extent_word.ensures ∙ ap penned_on c.write_image.ensures
+returns c = ap (λ (w : ℕ). answered w c.write_image.new.image) c.answer_word.ensures ∙ ap penned_on c.write_image.ensures

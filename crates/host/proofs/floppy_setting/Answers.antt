@@ -1,20 +1,8 @@
-use mathlib.Core.Bool.{not}
-use Rattle.host.proofs.Answers.{here-long, asked-bad, asked-good}
+use Rattle.std.proofs.Common.{rules}
 use Rattle.registers.specs.Calls.{setting_in}
 use Rattle.host.specs.Calls.{setting_on}
-use Rattle.words.specs.Words.{byte_word}
-use mathlib.Core.Path.{ap, ◌∙◌}
 use Rattle.host.proofs.floppy_setting.Goals as goal
-
-pub returns-then-not-formed : goal.returns-then-not-formed
-unfolding setting_on
-returns-then-not-formed c = asked-bad _ _ c.formed.ensures (ap not c.if-not-formed.true) _ (λ r. byte_word (setting_in r)) c.refusal_word.ensures
-
-pub decode-regs-requires : goal.decode-regs-requires
-decode-regs-requires c = here-long _ _ c.formed.ensures (ap not c.if-not-formed.false)
 
 pub returns : goal.returns
 unfolding setting_on
-returns c =
-    asked-good _ _ c.formed.ensures (ap not c.if-not-formed.false) _ c.decode-regs.ensures _ (λ r. byte_word (setting_in r))
-    (c.byte_word.ensures ∙ ap byte_word c.setting.ensures)
+returns c = c.ask.ensures setting_in (λ r a p. search rules)

@@ -5,10 +5,10 @@ pub returns : goal.returns
 unfolding regs_at
 returns c =
     simp (
-      c.command_at-command.ensures,
-      c.reply_at-reply.ensures,
-      c.write_at-write.ensures,
-      c.drive_at-drive.ensures,
+      c.bytes_at.ensures,
+      c.bytes_at-2.ensures,
+      c.write_at.ensures,
+      c.drive_at.ensures,
       c.long_at.ensures,
       c.long_at-2.ensures,
       c.flag_at.ensures,

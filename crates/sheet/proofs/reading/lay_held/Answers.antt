@@ -1,9 +1,5 @@
-use Rattle.sheet.proofs.Judges.{tail-fits, held-laid}
-use borrow.Author.Rules.{rules}
+use Rattle.sheet.proofs.Judges.{held-laid}
 use Rattle.sheet.proofs.reading.lay_held.Goals as goal
 
-pub copy_in-requires : goal.copy_in-requires
-copy_in-requires c = search (rules, tail-fits)
-
 pub returns : goal.returns
-returns c = search (rules, held-laid)
+returns c = held-laid _ _ _ _ _ c.requires.0 (c.fill.ensures.after (λ y e. e)) c.tail.ensures c.copy_in.ensures

@@ -2,14 +2,14 @@ use Rattle.sheet.proofs.Judges.{command-fits, command-small, reply-fits, reply-s
 use borrow.Author.Rules.{rules}
 use Rattle.sheet.proofs.reading.regs_from.Goals as goal
 
-pub command_from-requires : goal.command_from-requires
-command_from-requires c = search (rules, command-fits)
+pub on_zeros-requires : goal.on_zeros-requires
+on_zeros-requires c = search (rules, command-fits)
 
 pub overflow_cast-result : goal.overflow_cast-result
 overflow_cast-result c = search (rules, command-small)
 
-pub reply_from-requires : goal.reply_from-requires
-reply_from-requires c = search (rules, reply-fits)
+pub on_zeros-requires-2 : goal.on_zeros-requires-2
+on_zeros-requires-2 c = search (rules, reply-fits)
 
 pub overflow_cast-result-2 : goal.overflow_cast-result-2
 overflow_cast-result-2 c = search (rules, reply-small)

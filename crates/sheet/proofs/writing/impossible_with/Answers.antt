@@ -1,9 +1,13 @@
-use Rattle.sheet.proofs.Lengths.{other-held, all_held}
-use borrow.Author.Rules.{rules}
+use Rattle.std.proofs.Common.{arith}
+use Rattle.std.proofs.lemmas.Bool.Decides.{nat_tests}
+use Rattle.std.proofs.lemmas.Grind.{common_steps}
+use Rattle.sending.specs.Calls.{impossible_with}
 use Rattle.sheet.proofs.writing.impossible_with.Goals as goal
 
 pub returns-then-held-ne-HELD : goal.returns-then-held-ne-HELD
-returns-then-held-ne-HELD c = search (rules, other-held)
+unfolding impossible_with
+returns-then-held-ne-HELD c = grind (arith, common_steps, nat_tests)
 
-pub returns : goal.returns
-returns c = search (rules, all_held)
+pub returns-else-held-ne-HELD : goal.returns-else-held-ne-HELD
+unfolding impossible_with
+returns-else-held-ne-HELD c = grind (arith, common_steps, nat_tests)

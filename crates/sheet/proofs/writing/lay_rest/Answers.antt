@@ -8,4 +8,4 @@ use Rattle.sheet.proofs.writing.lay_rest.Goals as goal
 pub returns : goal.returns
 returns c =
     laid-rest _ _ _ _ (take (c.args.r.until - c.args.r.from) (drop c.args.r.from c.args.transfer.now)) _ _ c.args.r.lost c.args.at _ _ (omega (arith, c.requires)) (slice-drop c.args.transfer.now c.args.r.from c.args.r.until)
-    c.put_long-next.ensures.0 c.put_long-next.ensures.1 c.put-last.ensures.0 c.put-last.ensures.1 c.lay_works.ensures
+    c.put-next.ensures.0 c.put-next.ensures.1 c.put-last.ensures.0 c.put-last.ensures.1 c.lay_works.ensures

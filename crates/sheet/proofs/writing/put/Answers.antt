@@ -1,6 +1,7 @@
-use borrow.Author.Rules.{rules}
-use Rattle.sheet.proofs.Lays.{laid-short}
+use Rattle.std.proofs.Common.{refl}
+use Rattle.sheet.proofs.Lays.{laid-put}
 use Rattle.sheet.proofs.writing.put.Goals as goal
 
 pub returns : goal.returns
-returns c = search (rules, laid-short)
+returns c =
+    (laid-put _ _ _ _ _ _ _ c.requires.width_bound c.requires.room c.to_be_bytes-n.ensures c.copy_in.ensures c.copy_in-2.ensures, refl)
