@@ -3,9 +3,10 @@
 // stand in `stdout`. docs/ORACLE.md has both forms. The store is not cleared between two scripts.
 #![tactic(auto)]
 
-ghost use Rattle.std.specs.Prelude.{◌+◌, ◌*◌, ◌<◌, ◌≤◌};
-
-use fields::SectorId;
+use disk::Served;
+use fields::{Refusal, SectorId};
+use formatting::Format;
+use replay::Fault;
 use std::io;
 use std::io::{BufReader, BufWriter, Read, Write};
 
@@ -16,351 +17,227 @@ const SCRIPTS: u32 = 65536;
 const MOST_PRINTED: usize = 600;
 
 // The fields of an operation, as they came.
-fn show_fields<W: Write>(out: &mut W, fields: &[u8], count: usize) -> io::Result<()> {
-    let mut k: usize = 0;
-    while k < count {
-        replay::field(out, replay::byte(fields, k))?;
-        k += 1;
+type Fields = [u8; 11];
+
+// Where a script is taken to, its disk, and room for what is saved and read.
+#[derive(Drop)]
+struct Bench {
+    name: [u8; 256],
+    image: [u8; 65536],
+    table: [u8; store::TABLE],
+    bytes: [u8; fields::DATA],
+    work: [u8; 131072],
+}
+
+// What an operation does.
+#[derive(Clone, Copy)]
+enum Kind {
+    Format,
+    Save,
+    Read,
+    AskId,
+}
+
+impl TryFrom<u8> for Kind {
+    type Error = Fault;
+
+    fn try_from(number: u8) -> Result<Kind, Fault> {
+        match number {
+            1 => Ok(Kind::Format),
+            2 => Ok(Kind::Save),
+            3 => Ok(Kind::Read),
+            4 => Ok(Kind::AskId),
+            _ => Err(Fault::Broken),
+        }
+    }
+}
+
+// How many bytes of fields an operation has.
+fn length(kind: Kind) -> usize {
+    match kind {
+        Kind::Format => 6,
+        Kind::Save => 9,
+        Kind::Read => 11,
+        Kind::AskId => 4,
+    }
+}
+
+// The name of an operation, and the fields behind it that are single bytes.
+fn show_fields<W: Write>(out: &mut W, name: &str, fields: &[u8]) -> io::Result<()> {
+    write!(out, "{name}")?;
+    for b in fields {
+        write!(out, " {b}")?;
     }
     Ok(())
 }
 
-fn field_at(fields: &[u8], at: usize) -> u8 {
-    fields::byte(fields, at) as u8
-}
-
 // The ID behind an operation's side and cylinder.
-fn id_of(fields: &[u8]) -> SectorId {
-    SectorId {
-        c: field_at(fields, 2),
-        h: field_at(fields, 3),
-        r: field_at(fields, 4),
-        n: field_at(fields, 5),
-    }
+fn id_of(fields: &Fields) -> SectorId {
+    let [_, _, c, h, r, n, ..] = *fields;
+    SectorId { c, h, r, n }
 }
 
-fn refused<W: Write>(out: &mut W, why: fields::Refusal) -> io::Result<()> {
-    replay::put(out, b" ")?;
+fn refused<W: Write>(out: &mut W, why: Refusal) -> io::Result<()> {
+    write!(out, " ")?;
     replay::refused(out, why)
 }
 
-// A call that changed the disk, and the disk.
-fn done<W: Write>(out: &mut W, table: &[u8], bytes: &[u8]) -> io::Result<()> {
-    replay::put(out, b" done\n")?;
-    let held = replay::measure(table);
-    if MOST_PRINTED < held.sectors {
-        replay::show_totals(out, held.tracks, held.sectors, held.bytes)
-    } else {
-        replay::show_tracks(out, table, bytes)
-    }
-}
-
-// Side, cylinder, n, number of sectors, gap, filler.
-fn format<W: Write>(
-    out: &mut W,
-    fields: &[u8],
-    table: &mut [u8],
-    bytes: &mut [u8],
-) -> io::Result<()> {
-    replay::put(out, b"format")?;
-    show_fields(out, fields, 6)?;
-    let track = formatting::Format {
-        cylinder: field_at(fields, 1),
-        side: field_at(fields, 0),
-        size: field_at(fields, 2),
-        sectors: field_at(fields, 3),
-        gap: field_at(fields, 4),
-        filler: field_at(fields, 5),
-    };
-    let mut space = [0u8; tracks::IDS];
-    let ids: &mut [u8] = &mut space;
-    tracks::number_ids(ids, track.cylinder, track.side, track.size, track.sectors);
-    match formatting::set_track(table, bytes, track, ids) {
-        store::Done::Refused(why) => refused(out, why),
-        store::Done::Good => done(out, table, bytes),
-    }
-}
-
 // The bytes that a save stores.
-fn fill_pattern(new: &mut [u8], seed: usize)
-    requires { seed < 256 }
-{
-    let mut k: usize = 0;
-    while k < new.len() {
-        let value = (seed + 31 * (k % 65536) + k / 256) % 256;
-        new[k] = value as u8;
-        k += 1;
+fn fill_pattern(new: &mut [u8], seed: u8) {
+    for (k, b) in new.iter_mut().enumerate() {
+        *b = ((seed as usize + 31 * (k % 65536) + k / 256) % 256) as u8;
     }
 }
 
-// Side, cylinder, ID, length, seed.
-fn save<W: Write>(
-    out: &mut W,
-    fields: &[u8],
-    table: &mut [u8],
-    bytes: &mut [u8],
-    new: &mut [u8],
-) -> io::Result<()> {
-    let len = fields::word(fields, 6);
-    replay::put(out, b"save")?;
-    show_fields(out, fields, 6)?;
-    replay::field(out, len as u64)?;
-    replay::field(out, replay::byte(fields, 8))?;
-    fill_pattern(new, fields::byte(fields, 8));
-    let side = field_at(fields, 0);
-    let cylinder = field_at(fields, 1);
-    match disk::save(
-        table,
-        bytes,
-        side,
-        cylinder,
-        id_of(fields),
-        buffer::part(new, 0, len),
-    ) {
-        disk::Saved::Refused(why) => refused(out, why),
-        disk::Saved::Missing => replay::put(out, b" missing\n"),
-        disk::Saved::Good(_) => done(out, table, bytes),
+fn show_served<W: Write>(out: &mut W, served: Served, transfer: &[u8]) -> io::Result<()> {
+    write!(
+        out,
+        " {} {} {}",
+        served.total,
+        served.end_st1(),
+        served.st2.bits
+    )?;
+    let check = replay::check_of(buffer::part(transfer, 0, served.total));
+    writeln!(out, " {check}")
+}
+
+impl Bench {
+    // A call that changed the disk, and the disk.
+    fn done<W: Write>(&self, out: &mut W) -> io::Result<()> {
+        writeln!(out, " done")?;
+        let held = replay::measure(&self.table);
+        if MOST_PRINTED < held.sectors {
+            return replay::show_totals(out, held);
+        }
+        replay::show_tracks(out, &self.table, &self.bytes)
     }
-}
 
-fn show_served<W: Write>(out: &mut W, served: disk::Served, transfer: &[u8]) -> io::Result<()> {
-    let total = served.total;
-    let st2 = served.st2;
-    replay::field(out, total as u64)?;
-    replay::field(out, served.end_st1() as u64)?;
-    replay::field(out, st2.bits as u64)?;
-    let check = replay::check_of(buffer::part(transfer, 0, total));
-    replay::field(out, check as u64)?;
-    replay::put(out, b"\n")
-}
-
-// Reads into so much of the transfer buffer.
-fn read_into<W: Write>(
-    out: &mut W,
-    fields: &[u8],
-    table: &[u8],
-    bytes: &[u8],
-    transfer: &mut [u8],
-) -> io::Result<()> {
-    let side = field_at(fields, 0);
-    let cylinder = field_at(fields, 1);
-    let eot = field_at(fields, 6);
-    match disk::read(table, bytes, side, cylinder, id_of(fields), eot, transfer) {
-        disk::Reading::Refused(why) => refused(out, why),
-        disk::Reading::Missing => replay::put(out, b" missing\n"),
-        disk::Reading::Good(served) => show_served(out, served, transfer),
-    }
-}
-
-// Side, cylinder, ID, eot, length of the transfer buffer, which is no longer than the one at hand.
-fn read<W: Write>(
-    out: &mut W,
-    fields: &[u8],
-    table: &[u8],
-    bytes: &[u8],
-    transfer: &mut [u8],
-) -> io::Result<()> {
-    let room = replay::number(fields, 7);
-    replay::put(out, b"read")?;
-    show_fields(out, fields, 7)?;
-    replay::field(out, room as u64)?;
-    if room < transfer.len() {
-        read_into(out, fields, table, bytes, &mut transfer[..room])
-    } else {
-        read_into(out, fields, table, bytes, transfer)
-    }
-}
-
-// Side, cylinder, index.
-fn ask_id<W: Write>(out: &mut W, fields: &[u8], table: &[u8], bytes: &[u8]) -> io::Result<()> {
-    let idx = fields::word(fields, 2);
-    replay::put(out, b"id")?;
-    show_fields(out, fields, 2)?;
-    replay::field(out, idx as u64)?;
-    match store::id_by_idx(
-        table,
-        bytes,
-        field_at(fields, 0),
-        field_at(fields, 1),
-        idx as u16,
-    ) {
-        store::IdFound::Refused(why) => refused(out, why),
-        store::IdFound::Missing => replay::put(out, b" none\n"),
-        store::IdFound::Of(id) => {
-            replay::show_id(out, id)?;
-            replay::put(out, b"\n")
+    // Side, cylinder, n, number of sectors, gap, filler.
+    fn format<W: Write>(&mut self, out: &mut W, fields: &Fields) -> io::Result<()> {
+        show_fields(out, "format", &fields[..6])?;
+        let [side, cylinder, size, sectors, gap, filler, ..] = *fields;
+        let track = Format {
+            cylinder,
+            side,
+            size,
+            sectors,
+            gap,
+            filler,
+        };
+        let mut ids = [0; tracks::IDS];
+        tracks::number_ids(&mut ids, cylinder, side, size, sectors);
+        match formatting::set_track(&mut self.table, &mut self.bytes, track, &ids) {
+            Err(why) => refused(out, why),
+            Ok(()) => self.done(out),
         }
     }
-}
 
-fn broken(rt: &impl Eprint) -> io::Result<bool> {
-    eprintln!(rt; "changes: the list ends inside a script")?;
-    Ok(false)
-}
+    // Side, cylinder, ID, length, seed.
+    fn save<W: Write>(&mut self, out: &mut W, fields: &Fields) -> io::Result<()> {
+        let len = fields::word(fields, 6);
+        let seed = fields[8];
+        show_fields(out, "save", &fields[..6])?;
+        write!(out, " {len} {seed}")?;
+        fill_pattern(&mut self.work, seed);
+        let new = buffer::part(&self.work, 0, len);
+        let [side, cylinder, ..] = *fields;
+        let id = id_of(fields);
+        match disk::save(&mut self.table, &mut self.bytes, side, cylinder, id, new) {
+            Err(why) => refused(out, why),
+            Ok(None) => writeln!(out, " missing"),
+            Ok(Some(_)) => self.done(out),
+        }
+    }
 
-// How many bytes of fields an operation of a kind has; 0 for a kind that there is not.
-fn fields_of(kind: u8) -> usize {
-    if kind == 1 {
-        return 6;
+    // Side, cylinder, ID, eot, length of the transfer buffer, which is no longer than the one at hand.
+    fn read<W: Write>(&mut self, out: &mut W, fields: &Fields) -> io::Result<()> {
+        let room = replay::number(fields, 7);
+        show_fields(out, "read", &fields[..7])?;
+        write!(out, " {room}")?;
+        let work = &mut self.work[..];
+        let lent = room.min(work.len());
+        let transfer = &mut work[..lent];
+        let [side, cylinder, _, _, _, _, eot, ..] = *fields;
+        let id = id_of(fields);
+        match disk::read(&self.table, &self.bytes, side, cylinder, id, eot, transfer) {
+            Err(why) => refused(out, why),
+            Ok(None) => writeln!(out, " missing"),
+            Ok(Some(served)) => show_served(out, served, transfer),
+        }
     }
-    if kind == 2 {
-        return 9;
-    }
-    if kind == 3 {
-        return 11;
-    }
-    if kind == 4 {
-        return 4;
-    }
-    0
-}
 
-// Runs the operation of a kind.
-fn perform<W: Write>(
-    out: &mut W,
-    kind: u8,
-    fields: &[u8],
-    table: &mut [u8],
-    bytes: &mut [u8],
-    work: &mut [u8],
-) -> io::Result<()> {
-    if kind == 1 {
-        return format(out, fields, table, bytes);
+    // Side, cylinder, index.
+    fn ask_id<W: Write>(&self, out: &mut W, fields: &Fields) -> io::Result<()> {
+        let idx = fields::word(fields, 2) as u16;
+        show_fields(out, "id", &fields[..2])?;
+        write!(out, " {idx}")?;
+        match store::id_by_idx(&self.table, &self.bytes, fields[0], fields[1], idx) {
+            Err(why) => refused(out, why),
+            Ok(None) => writeln!(out, " none"),
+            Ok(Some(id)) => {
+                replay::show_id(out, id)?;
+                writeln!(out)
+            }
+        }
     }
-    if kind == 2 {
-        return save(out, fields, table, bytes, work);
-    }
-    if kind == 3 {
-        return read(out, fields, table, bytes, work);
-    }
-    ask_id(out, fields, table, bytes)
-}
 
-// Runs one operation; no where the list ends inside it.
-fn operate<R: Read, W: Write>(
-    rt: &impl Eprint,
-    input: &mut R,
-    out: &mut W,
-    table: &mut [u8],
-    bytes: &mut [u8],
-    work: &mut [u8],
-) -> io::Result<bool> {
-    let mut few = [0u8; 11];
-    let fields: &mut [u8] = &mut few;
-    if !replay::take(input, fields, 1)? {
-        return broken(rt);
+    // Takes one operation and runs it.
+    fn operate<R: Read, W: Write>(&mut self, input: &mut R, out: &mut W) -> Result<(), Fault> {
+        let mut fields = [0; 11];
+        replay::need(input, &mut fields, 1)?;
+        let kind = Kind::try_from(fields[0])?;
+        replay::need(input, &mut fields, length(kind))?;
+        match kind {
+            Kind::Format => self.format(out, &fields)?,
+            Kind::Save => self.save(out, &fields)?,
+            Kind::Read => self.read(out, &fields)?,
+            Kind::AskId => self.ask_id(out, &fields)?,
+        }
+        Ok(())
     }
-    let kind = field_at(fields, 0);
-    let count = fields_of(kind);
-    if count == 0 {
-        return broken(rt);
-    }
-    if !replay::take(input, fields, count)? {
-        return broken(rt);
-    }
-    perform(out, kind, fields, table, bytes, work)?;
-    Ok(true)
-}
 
-// Runs the operations of a script; no where the list ends inside one.
-fn operations<R: Read, W: Write>(
-    rt: &impl Eprint,
-    input: &mut R,
-    out: &mut W,
-    table: &mut [u8],
-    bytes: &mut [u8],
-    work: &mut [u8],
-) -> io::Result<bool> {
-    let mut small = [0u8; 2];
-    let two: &mut [u8] = &mut small;
-    if !replay::take(input, two, 2)? {
-        return broken(rt);
+    // Runs the operations of a script.
+    fn operations<R: Read, W: Write>(&mut self, input: &mut R, out: &mut W) -> Result<(), Fault> {
+        let mut two = [0; 2];
+        replay::need(input, &mut two, 2)?;
+        for _ in 0..fields::word(&two, 0) {
+            self.operate(input, out)?;
+        }
+        Ok(())
     }
-    let mut left = fields::word(two, 0);
-    while 0 < left {
-        if !operate(rt, input, out, table, bytes, work)? {
+
+    // The disk that a script begins with: a fresh one where it has no image of so many bytes.
+    fn start(&mut self, len: usize) -> Result<(), Refusal> {
+        let image = buffer::part(&self.image, 0, len);
+        if image.is_empty() {
+            return loading::new_formatted(&mut self.table, &mut self.bytes);
+        }
+        loading::new(image, &mut self.table, &mut self.bytes)
+    }
+
+    // Reads one script and runs it; no where the list ends or the disk is refused.
+    fn replay<R: Read, W: Write>(&mut self, input: &mut R, out: &mut W) -> Result<bool, Fault> {
+        let Some(record) = replay::take_record(input, &mut self.name, &mut self.image)? else {
+            return Ok(false);
+        };
+        replay::put(out, b"script ")?;
+        replay::put(out, buffer::part(&self.name, 0, record.letters))?;
+        replay::put(out, b"\n")?;
+        if let Err(why) = self.start(record.len) {
+            replay::refused(out, why)?;
             return Ok(false);
         }
-        left -= 1;
-    }
-    Ok(true)
-}
-
-// The disk that a script begins with: a fresh one where it has no image.
-fn start(image: &[u8], table: &mut [u8], bytes: &mut [u8]) -> store::Done {
-    if image.len() == 0 {
-        return loading::new_formatted(table, bytes);
-    }
-    loading::new(image, table, bytes)
-}
-
-// Runs a script of this name on this disk; no where the list ends inside it.
-fn run_script<R: Read, W: Write>(
-    rt: &impl Eprint,
-    input: &mut R,
-    out: &mut W,
-    name: &[u8],
-    image: &[u8],
-    table: &mut [u8],
-    bytes: &mut [u8],
-    work: &mut [u8],
-) -> io::Result<bool> {
-    replay::put(out, b"script ")?;
-    replay::put(out, name)?;
-    replay::put(out, b"\n")?;
-    match start(image, table, bytes) {
-        store::Done::Refused(why) => {
-            replay::refused(out, why)?;
-            Ok(false)
-        }
-        store::Done::Good => operations(rt, input, out, table, bytes, work),
-    }
-}
-
-// Reads one script and runs it; no where the list ends.
-fn replay<R: Read, W: Write>(
-    rt: &impl Eprint,
-    input: &mut R,
-    out: &mut W,
-    name: &mut [u8],
-    image: &mut [u8],
-    table: &mut [u8],
-    bytes: &mut [u8],
-    work: &mut [u8],
-) -> io::Result<bool> {
-    match replay::take_record(input, name, image)? {
-        replay::Record::End => Ok(false),
-        replay::Record::Broken => broken(rt),
-        replay::Record::Whole { letters, len } => run_script(
-            rt,
-            input,
-            out,
-            buffer::part(name, 0, letters),
-            buffer::part(image, 0, len),
-            table,
-            bytes,
-            work,
-        ),
+        self.operations(input, out)?;
+        Ok(true)
     }
 }
 
 // Replays every script.
-fn run<R: Read, W: Write>(
-    rt: &impl Eprint,
-    input: &mut R,
-    out: &mut W,
-    name: &mut [u8; 256],
-    image: &mut [u8; 65536],
-    table: &mut [u8; store::TABLE],
-    bytes: &mut [u8; fields::DATA],
-    work: &mut [u8; 131072],
-) -> io::Result<()> {
-    let mut left = SCRIPTS;
-    while 0 < left {
-        if !replay(rt, input, out, name, image, table, bytes, work)? {
+fn run<R: Read, W: Write>(input: &mut R, out: &mut W, bench: &mut Bench) -> Result<(), Fault> {
+    for _ in 0..SCRIPTS {
+        if !bench.replay(input, out)? {
             return Ok(());
         }
-        left -= 1;
     }
     Ok(())
 }
@@ -368,13 +245,14 @@ fn run<R: Read, W: Write>(
 fn main(rt: HostRuntime) -> io::Result<()> {
     let mut input = BufReader::new(rt.alloc(), rt.stdin())?;
     let mut out = BufWriter::new(rt.alloc(), rt.stdout())?;
-    let mut name = [0; 256];
-    let mut image = [0; 65536];
-    let mut table = [0; store::TABLE];
-    let mut bytes = [0; fields::DATA];
-    let mut work = [0; 131072];
-    run(
-        &rt, &mut input, &mut out, &mut name, &mut image, &mut table, &mut bytes, &mut work,
-    )?;
+    let mut bench = Bench {
+        name: [0; 256],
+        image: [0; 65536],
+        table: [0; store::TABLE],
+        bytes: [0; fields::DATA],
+        work: [0; 131072],
+    };
+    let replayed = run(&mut input, &mut out, &mut bench);
+    replay::ended(&rt, replayed, "changes: the list ends inside a script")?;
     out.flush()
 }

@@ -5,7 +5,7 @@ use native.Mathlib.Omega.{arith}
 use mathlib.Core.List.{List, [], ◌++◌}
 use lib.ListN.{length, drop, length-append}
 use lib.Seq.{get_or-drop}
-use Rattle.fields.specs.Refusals.{Result, refused, good, number_of}
+use Rattle.fields.specs.Refusals.{number_of}
 use Rattle.fields.specs.Bytes.{byte_at, number_at}
 use Rattle.fields.specs.Model.{copies, Track, Disk, total, sector_count}
 use Rattle.tracks.specs.Block.{row_at, row_by, row_place, row_of, track_in, track_of, track_head}
@@ -15,7 +15,6 @@ use Rattle.fields.specs.declared.refusal.Refusal.{Refusal}
 use Rattle.tracks.specs.declared.track.Kind.{Kind}
 use Rattle.tracks.specs.declared.track.Kind.TheVariants.{Normal, Extended}
 use Rattle.image.specs.declared.walk.Walk.{Walk}
-use Rattle.image.specs.declared.walk.Step.{Step}
 use Rattle.image.specs.declared.walk.Step.TheVariants as step
 use Rattle.tracks.specs.declared.track.Row.{Row}
 use Rattle.image.specs.declared.walk.Totals.{Totals}
@@ -27,6 +26,8 @@ use Rattle.listing.specs.Lines.{row_line, head_line, totals_line, row_lines, blo
 use Rattle.listing.proofs.Digits.{byte-digits, word-digits, all_digits}
 use Rattle.listing.proofs.Lines.{id-length, row-length, head-length, totals-length, refusal-length}
 use Rattle.listing.proofs.Tracks.{block-lines}
+use Rattle.std.specs.Prelude.{Result, Ok, Err}
+use Rattle.image.specs.declared.walk.Step.{Step}
 
 -- bytes are below 256
 abbrev pub Small : List ℕ → Type 0
@@ -91,7 +92,7 @@ module _ (b : List ℕ) (s : Small b) where
       )
 
   -- the lines of a track that a block holds
-  block-few : (kind : Kind) (t : Track) → track_of kind b ≡ good t → length (track_line t ++ sector_lines t.sectors) ≤ 45 + 43 * length t.sectors
+  block-few : (kind : Kind) (t : Track) → track_of kind b ≡ Ok t → length (track_line t ++ sector_lines t.sectors) ≤ 45 + 43 * length t.sectors
   unfolding track_in
   block-few kind t e =
       let same : track_in kind b ≡ t = (track-good kind b t e).0 in
@@ -114,16 +115,16 @@ module _ (b : List ℕ) (s : Small b) where
       )
 
 -- a disk's lines are no longer than its tracks and sectors allow
-abbrev pub Few : Result Disk → Type 0
-Few (refused why) = Unit {0}
-Few (good d) = length (track_lines d) ≤ 45 * length d + 43 * sector_count d
+abbrev pub Few : Result Disk Refusal → Type 0
+Few (Err why) = Unit {0}
+Few (Ok d) = length (track_lines d) ≤ 45 * length d + 43 * sector_count d
 
 module _ (b : List ℕ) (s : Small b) where
   module _ (w : Walk) where
-    one : (t : Track) → track_of w.kind (drop w.at b) ≡ good t → (q : Result Disk) → Few q → Few (before t q)
+    one : (t : Track) → track_of w.kind (drop w.at b) ≡ Ok t → (q : Result Disk Refusal) → Few q → Few (before t q)
     unfolding track_lines total
-    one t e (refused why) f = tt
-    one t e (good d) f =
+    one t e (Err why) f = tt
+    one t e (Ok d) f =
         omega (
           arith,
           block-few (drop w.at b) (small-drop b w.at s) w.kind t e,
@@ -132,12 +133,12 @@ module _ (b : List ℕ) (s : Small b) where
           length-append (sector_lines t.sectors) (track_lines d),
         )
 
-    step-few : (x : Step) → Says b w x → ((r : Walk) → Moved w r → Few (tracks_left b r)) → Few (tracks_left b w)
+    step-few : (x : Result Step Refusal) → Says b w x → ((r : Walk) → Moved w r → Few (tracks_left b r)) → Few (tracks_left b w)
     unfolding track_lines
-    step-few step.End e f = subst Few (sym e) (omega arith)
-    step-few (step.Refused why) e f = subst Few (sym e) tt
-    step-few (step.Absent r) e f = subst Few (sym e.1) (f r e.0)
-    step-few (step.Track h r) e f = subst Few (sym e.left) (one e.track e.read (tracks_left b r) (f r e.moved))
+    step-few (Ok step.End) e f = subst Few (sym e) (omega arith)
+    step-few (Err why) e f = subst Few (sym e) tt
+    step-few (Ok (step.Absent r)) e f = subst Few (sym e.1) (f r e.0)
+    step-few (Ok (step.Track h r)) e f = subst Few (sym e.left) (one e.track e.read (tracks_left b r) (f r e.moved))
 
   -- those of the tracks that a walk has to hand out, step by step
   left-few : (n : ℕ) (w : Walk) → w.entries - w.entry ≤ n → Few (tracks_left b w)
@@ -156,5 +157,5 @@ pub totals-few : (kind : Kind) (n : Totals) → length (totals_line kind n) ≤ 
 totals-few kind n =
     omega (arith, totals-length kind n, kind-few kind, all_digits 20 n.tracks [], all_digits 20 n.sectors [], all_digits 20 n.bytes [])
 
-pub refusal-few : (why : Refusal) → length (printed_as (refused why)) ≤ 29
+pub refusal-few : (why : Refusal) → length (printed_as (Err why)) ≤ 29
 refusal-few why = omega (arith, refusal-length why, all_digits 20 (number_of why) [])

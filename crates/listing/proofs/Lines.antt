@@ -6,7 +6,7 @@ use mathlib.Core.List.{List, [], ◌++◌}
 use lib.ListN.{length, length-append}
 use Rattle.buffer.specs.Over.{over}
 use Rattle.buffer.proofs.Overs.{over-over, over-nil, over-length}
-use Rattle.fields.specs.Refusals.{refused, number_of}
+use Rattle.fields.specs.Refusals.{number_of}
 use Rattle.fields.specs.Model.{copies}
 use Rattle.fields.specs.declared.refusal.Refusal.{Refusal}
 use Rattle.fields.specs.declared.id.SectorId.{SectorId}
@@ -16,6 +16,7 @@ use Rattle.tracks.specs.declared.track.Row.{Row}
 use Rattle.image.specs.declared.walk.Totals.{Totals}
 use Rattle.listing.specs.Text.{disk_word, tracks_word, sectors_word, bytes_word, track_word, gap_word, filler_word, sector_word, space, end, refused_word, kind_word, decimal, printed_as, disk_fields, id_text, sector_fields, track_fields}
 use Rattle.listing.specs.Lines.{Laid, row_line, head_line, totals_line}
+use Rattle.std.specs.Prelude.{Err}
 
 -- ---- one text behind another
 
@@ -101,13 +102,13 @@ pub totals-length : (kind : Kind) (n : Totals) → length (totals_line kind n)
 unfolding disk_fields
 totals-length kind n = simp length-append (omega arith)
 
-pub refusal-length : (why : Refusal) → length (printed_as (refused why)) ≡ 9 + length (decimal (number_of why))
+pub refusal-length : (why : Refusal) → length (printed_as (Err why)) ≡ 9 + length (decimal (number_of why))
 refusal-length why = simp length-append (omega arith)
 
 -- each line by its fields
 module _ {d d₁ d₂ : List ℕ} {at a₁ a₂ : ℕ} where
-  pub refusal-laid : (why : Refusal) (n : ℕ) → n ≡ number_of why → at + length (printed_as (refused why)) ≤ length d → Laid d at (refused_word ++ decimal n) d₁ a₁
-      → Laid d₁ a₁ end d₂ a₂ → Laid d at (printed_as (refused why)) d₂ a₂
+  pub refusal-laid : (why : Refusal) (n : ℕ) → n ≡ number_of why → at + length (printed_as (Err why)) ≤ length d → Laid d at (refused_word ++ decimal n) d₁ a₁
+      → Laid d₁ a₁ end d₂ a₂ → Laid d at (printed_as (Err why)) d₂ a₂
   refusal-laid why n e l p q =
       both (refused_word ++ decimal (number_of why)) end l
       (renamed (refused_word ++ decimal n) (refused_word ++ decimal (number_of why)) (ap (λ (k : ℕ). refused_word ++ decimal k) e) p) (λ m. q)

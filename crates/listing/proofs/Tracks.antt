@@ -4,7 +4,6 @@ use Prim.Native.Nat.{ℕ, ◌+◌, ◌-◌, ◌≤◌, ◌<◌}
 use native.Mathlib.Omega.{arith}
 use mathlib.Core.List.{List, [], ◌∷◌, ◌++◌, append_assoc}
 use lib.ListN.{length, take, drop}
-use Rattle.fields.specs.Refusals.{Result, good}
 use Rattle.fields.specs.Bytes.{byte_at}
 use Rattle.fields.specs.Model.{Track, Disk}
 use Rattle.tracks.specs.Block.{row_of, sector_of, sectors_from, stored_from, track_in, track_of, track_head}
@@ -21,6 +20,7 @@ use Rattle.image.proofs.Steps.{come-split}
 use Rattle.listing.specs.Text.{sector_line, track_line, sector_lines, track_lines, sector_fields}
 use Rattle.listing.specs.Lines.{Laid, row_line, head_line, row_lines, block_lines, Listable}
 use Rattle.listing.proofs.Lines.{Left, left-start, left-done, left-room, left-again}
+use Rattle.std.specs.Prelude.{Result, Ok, Err}
 
 -- ---- a track block
 
@@ -45,7 +45,7 @@ module _ (kind : Kind) (b : List ℕ) where
       (λ k place left ss e f i. row-line (row_of kind b k) (drop place b) e i ++ f i)
 
   -- what is laid of a block is its track's line with its sectors under it
-  pub block-lines : (t : Track) → track_of kind b ≡ good t → (h : Head) → h ≡ track_head t → block_lines kind b h ≡ track_line t ++ sector_lines t.sectors
+  pub block-lines : (t : Track) → track_of kind b ≡ Ok t → (h : Head) → h ≡ track_head t → block_lines kind b h ≡ track_line t ++ sector_lines t.sectors
   unfolding track_in
   block-lines t e h f =
       let same : track_in kind b ≡ t = (track-good kind b t e).0 in
@@ -84,7 +84,7 @@ module _ (kind : Kind) (b : List ℕ) where
 -- what it knows at its head
 pub record Walking (img d₀ : List ℕ) (place : ℕ) (start : Walk) (kind : Kind) (d : List ℕ) (w : Walk) (at : ℕ) : Type 0 where
   pub same_kind : w.kind ≡ kind
-  pub whole : tracks_left img w ≡ good (to_come img w)
+  pub whole : tracks_left img w ≡ Ok (to_come img w)
   pub left : Left d₀ place (track_lines (to_come img start)) d at (track_lines (to_come img w))
 
 module _ (img d₀ : List ℕ) (place : ℕ) (start : Walk) (kind : Kind) where
@@ -93,27 +93,27 @@ module _ (img d₀ : List ℕ) (place : ℕ) (start : Walk) (kind : Kind) where
 
   module _ (d : List ℕ) (w : Walk) (at : ℕ) (l : Walking img d₀ place start kind d w at) where
     -- an image that was read as good is not refused now
-    pub walking-never : (why : Refusal) → Says img w (step.Refused why) → ⊥
-    walking-never why e = let x : tracks_left img w ≡ good (to_come img w) = l.whole in never (cc)
+    pub walking-never : (why : Refusal) → Says img w (Err why) → ⊥
+    walking-never why e = let x : tracks_left img w ≡ Ok (to_come img w) = l.whole in never (cc)
 
-    pub walking-end : Says img w step.End → Laid d₀ place (track_lines (to_come img start)) d at
+    pub walking-end : Says img w (Ok step.End) → Laid d₀ place (track_lines (to_come img start)) d at
     unfolding track_lines
-    walking-end e = left-done d₀ place _ d at (track_lines (to_come img w)) l.left (ap (λ (x : Result Disk). track_lines (tracks_in x)) e)
+    walking-end e = left-done d₀ place _ d at (track_lines (to_come img w)) l.left (ap (λ (x : Result Disk Refusal). track_lines (tracks_in x)) e)
 
-    pub walking-absent : (r : Walk) → Says img w (step.Absent r) → Walking img d₀ place start kind d r at
+    pub walking-absent : (r : Walk) → Says img w (Ok (step.Absent r)) → Walking img d₀ place start kind d r at
     walking-absent r e =
         let q : to_come img r ≡ to_come img w = ap tracks_in (sym e.1) in
-        record { same_kind = e.0.kind ∙ l.same_kind; whole = sym e.1 ∙ l.whole ∙ ap good (sym q); left = rw q l.left }
+        record { same_kind = e.0.kind ∙ l.same_kind; whole = sym e.1 ∙ l.whole ∙ ap Ok (sym q); left = rw q l.left }
 
-    module _ (room : place + length (track_lines (to_come img start)) ≤ length d₀) (h : Head) (r : Walk) (e : Says img w (step.Track h r)) (p : List ℕ) (ep : p ≡ drop w.at img) where
-      rest : (tracks_left img r ≡ good (to_come img r)) × (to_come img w ≡ e.track ∷ to_come img r)
+    module _ (room : place + length (track_lines (to_come img start)) ≤ length d₀) (h : Head) (r : Walk) (e : Says img w (Ok (step.Track h r))) (p : List ℕ) (ep : p ≡ drop w.at img) where
+      rest : (tracks_left img r ≡ Ok (to_come img r)) × (to_come img w ≡ e.track ∷ to_come img r)
       rest = come-split img w r e.track e.left l.whole
 
       -- the track's lines come first
       first : track_lines (to_come img w) ≡ block_lines kind p h ++ track_lines (to_come img r)
       unfolding track_lines
       first =
-          let read : track_of kind p ≡ good e.track = (λ i. track_of (sym l.same_kind i) (ep i)) ∙ e.read in
+          let read : track_of kind p ≡ Ok e.track = (λ i. track_of (sym l.same_kind i) (ep i)) ∙ e.read in
           ap track_lines rest.1
           ∙ sym (append_assoc (track_line e.track) (sector_lines e.track.sectors) (track_lines (to_come img r)))
           ∙ ap (λ (x : List ℕ). x ++ track_lines (to_come img r)) (sym (block-lines kind p e.track read h e.head))

@@ -1,15 +1,16 @@
 -- What the private calls that lay a text leave, in terms of what the walk hands out. A reader of the promise need not read this page.
-use Rattle.std.specs.Prelude.{ℕ, zero, suc, ◌+◌, ◌≤◌, ◌≡◌, List, [], ◌++◌, length}
+use Rattle.std.specs.Prelude.{ℕ, zero, suc, ◌+◌, ◌≤◌, ◌≡◌, List, [], ◌++◌, length, Result, Ok, Err}
 use Rattle.buffer.specs.Over.{over}
-use Rattle.fields.specs.Refusals.{good}
 use Rattle.tracks.specs.Block.{row_of}
-use Rattle.image.specs.Calls.{tracks_left, to_come}
+use Rattle.image.specs.Calls.{tracks_left, to_come, survey_of}
 use Rattle.tracks.specs.declared.track.Kind.{Kind}
 use Rattle.image.specs.declared.walk.Walk.{Walk}
 use Rattle.tracks.specs.declared.track.Head.{Head}
 use Rattle.tracks.specs.declared.track.Row.{Row}
 use Rattle.image.specs.declared.walk.Totals.{Totals}
-use Rattle.listing.specs.Text.{sector_fields, track_fields, disk_fields, track_lines}
+use Rattle.listing.specs.Text.{sector_fields, track_fields, disk_fields, track_lines, most_input, printed_as, printed}
+use Rattle.fields.specs.declared.refusal.Refusal.{Refusal}
+use Rattle.fields.specs.Capacities.{most_tracks, most_sectors}
 
 -- a text was laid from a place on, and the place behind it answered
 pub record Laid (d : List ℕ) (at : ℕ) (text d' : List ℕ) (next : ℕ) : Type 0 where
@@ -37,5 +38,17 @@ block_lines kind b h = head_line h ++ row_lines kind b 0 h.sectors
 
 -- a walk whose tracks are good and whose lines find room from a place on
 pub record Listable (b : List ℕ) (w : Walk) (at room : ℕ) : Type 0 where
-  pub whole : tracks_left b w ≡ good (to_come b w)
+  pub whole : tracks_left b w ≡ Ok (to_come b w)
   pub lines : at + length (track_lines (to_come b w)) ≤ room
+
+-- an image that is listed, by its survey
+pub record Surveyed (b : List ℕ) (n : Totals) (w : Walk) : Type 0 where
+  pub short : length b ≤ most_input
+  pub read : Ok (n, w) ≡ survey_of b
+  pub tracks : n.tracks ≤ most_tracks
+  pub sectors : n.sectors ≤ most_sectors
+
+-- what an input is found to be: an image that is listed, or one whose refusal is printed
+abbrev pub Judged : List ℕ → Result (Totals × Walk) Refusal → Type 0
+Judged b (Err why) = printed_as (Err why) ≡ printed b
+Judged b (Ok (n, w)) = Surveyed b n w

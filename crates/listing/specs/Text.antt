@@ -1,6 +1,6 @@
 -- What the listing program prints (01, "Listing program"), over the disk that an image holds by `Rattle.image.specs.Dsk`. A text is a list of bytes.
-use Rattle.std.specs.Prelude.{ℕ, zero, suc, ◌+◌, ◌/◌, ◌%◌, cond, List, [], ◌∷◌, ◌++◌, length, ltb, leb}
-use Rattle.fields.specs.Refusals.{Result, refused, good, need, after, number_of}
+use Rattle.std.specs.Prelude.{ℕ, zero, suc, ◌+◌, ◌/◌, ◌%◌, cond, List, [], ◌∷◌, ◌++◌, length, ltb, leb, Result, Ok, Err}
+use Rattle.fields.specs.Refusals.{need, after, number_of}
 use Rattle.fields.specs.Capacities.{most_tracks, most_sectors}
 use Rattle.fields.specs.Model.{copies, Sector, Track, Disk, sector_count, byte_count}
 use Rattle.image.specs.Dsk.{Dsk, dsk_of}
@@ -8,6 +8,7 @@ use Rattle.fields.specs.declared.id.SectorId.{SectorId}
 use Rattle.tracks.specs.declared.track.Kind.{Kind}
 use Rattle.tracks.specs.declared.track.Kind.TheVariants.{Normal, Extended}
 use Rattle.fields.specs.declared.refusal.Refusal.TheVariants.{LongInput, TooManyTracks, TooManySectors}
+use Rattle.fields.specs.declared.refusal.Refusal.{Refusal}
 
 -- ---- Words
 
@@ -125,17 +126,17 @@ abbrev pub most_text : ℕ
 most_text = 98304
 
 -- 10 is judged first, then the image, then 6 and 7; with no store 8 never comes
-unfoldable pub listing_of : List ℕ → Result (List ℕ)
+unfoldable pub listing_of : List ℕ → Result (List ℕ) Refusal
 listing_of b =
     need (leb (length b) most_input) LongInput
     (after (dsk_of b) (λ d.
     need (leb (length d.disk) most_tracks) TooManyTracks
-    (need (leb (sector_count d.disk) most_sectors) TooManySectors (good (listing_text d)))))
+    (need (leb (sector_count d.disk) most_sectors) TooManySectors (Ok (listing_text d)))))
 
 -- a refusal prints `refused N` alone
-abbrev pub printed_as : Result (List ℕ) → List ℕ
-printed_as (refused why) = refused_word ++ (decimal (number_of why) ++ end)
-printed_as (good text) = text
+abbrev pub printed_as : Result (List ℕ) Refusal → List ℕ
+printed_as (Err why) = refused_word ++ (decimal (number_of why) ++ end)
+printed_as (Ok text) = text
 
 -- what the program prints for an input
 unfoldable pub printed : List ℕ → List ℕ

@@ -3,14 +3,13 @@
 
 mod text;
 
-ghost use Rattle.std.specs.Prelude.{◌≡◌, ◌≤◌, length};
+ghost use Rattle.std.specs.Prelude.{◌≡◌, length};
 ghost use Rattle.buffer.specs.Over.{over};
-ghost use Rattle.image.specs.Calls.{survey_of};
-ghost use Rattle.listing.specs.Text.{most_input, printed};
-ghost use Rattle.listing.specs.Lines.{Laid};
+ghost use Rattle.listing.specs.Text.{printed};
+ghost use Rattle.listing.specs.Lines.{Judged};
 
 use fields::Refusal;
-use image::{Surveyed, Totals, Walk};
+use image::{Totals, Walk};
 use text::{put_disk, put_refusal, put_tracks};
 
 // No longer input is listed.
@@ -19,20 +18,21 @@ const INPUT: usize = 65536;
 // More bytes no listing has: a line for the disk, 204 for tracks and 2,048 for sectors.
 pub const MOST: usize = 98304;
 
-// Lays what the listing program prints for an image that was surveyed as good.
-fn list(input: &[u8], totals: Totals, walk: Walk, out: &mut [u8; MOST]) -> usize
-    requires { (length input.now ≤ most_input) × (Surveyed.Good totals walk ≡ survey_of input.now) }
-    ensures { Laid out.old 0 (printed input.now) out.new result }
+// How much an image that is listed holds, and the walk over it; or why the image is refused.
+fn judge(input: &[u8]) -> Result<(Totals, Walk), Refusal>
+    ensures { Judged input.now result }
 {
+    if INPUT < input.len() {
+        return Err(Refusal::LongInput);
+    }
+    let (totals, walk) = image::survey(input)?;
     if fields::TRACKS < totals.tracks {
-        return put_refusal(out, Refusal::TooManyTracks);
+        return Err(Refusal::TooManyTracks);
     }
     if fields::SECTORS < totals.sectors {
-        return put_refusal(out, Refusal::TooManySectors);
+        return Err(Refusal::TooManySectors);
     }
-    let kind = walk.kind;
-    let at = put_disk(out, kind, totals);
-    put_tracks(out, at, input, walk)
+    Ok((totals, walk))
 }
 
 // Lays what the listing program prints for an input from the start of `out`, and answers how many bytes that is.
@@ -40,11 +40,11 @@ pub fn listing(input: &[u8], out: &mut [u8; MOST]) -> usize
     ensures { (result ≡ length (printed input.now))
         × (out.new ≡ over out.old 0 (printed input.now)) }
 {
-    if INPUT < input.len() {
-        return put_refusal(out, Refusal::LongInput);
-    }
-    match image::survey(input) {
-        Surveyed::Refused(why) => put_refusal(out, why),
-        Surveyed::Good(totals, walk) => list(input, totals, walk, out),
+    match judge(input) {
+        Err(why) => put_refusal(out, why),
+        Ok((totals, walk)) => {
+            let at = put_disk(out, walk.kind, totals);
+            put_tracks(out, at, input, walk)
+        }
     }
 }

@@ -1,6 +1,5 @@
 // A listing's text, laid into a slice: each function lays its part from a place on and answers the place behind it.
-ghost use Rattle.std.specs.Prelude.{◌≡◌, ◌+◌, ◌≤◌, ◌++◌, length, drop};
-ghost use Rattle.fields.specs.Refusals.{refused};
+ghost use Rattle.std.specs.Prelude.{◌≡◌, ◌+◌, ◌≤◌, ◌++◌, length, drop, Err};
 ghost use Rattle.listing.specs.Text.{disk_word, kind_word, decimal, track_lines, printed_as, id_text};
 ghost use Rattle.image.specs.Calls.{to_come};
 ghost use Rattle.listing.specs.Lines.{Laid, row_line, head_line, totals_line, row_lines, block_lines, Listable};
@@ -16,6 +15,7 @@ fn write_digits(digits: &mut [u8], n: usize) -> usize
 {
     let mut left = n;
     let mut at: usize = 20;
+    // How many digits there are shows as they are written.
     while 10 <= left {
         at -= 1;
         digits[at] = (48 + left % 10) as u8;
@@ -40,10 +40,9 @@ fn put_number(out: &mut [u8], at: usize, n: usize) -> usize
     requires { at + length (decimal n) ≤ length out.old }
     ensures { Laid out.old at (decimal n) out.new result }
 {
-    let mut space = [0u8; 20];
-    let digits: &mut [u8] = &mut space;
-    let from = write_digits(digits, n);
-    put_word(out, at, buffer::tail(digits, from))
+    let mut digits = [0u8; 20];
+    let from = write_digits(&mut digits, n);
+    put_word(out, at, buffer::tail(&digits, from))
 }
 
 // Lays a word and a number behind it.
@@ -79,15 +78,12 @@ fn put_row(out: &mut [u8], at: usize, row: Row) -> usize
     requires { at + length (row_line row) ≤ length out.old }
     ensures { Laid out.old at (row_line row) out.new result }
 {
-    let id = row.id;
-    let st1 = row.st1;
-    let st2 = row.st2;
     let stored = row.stored as usize;
-    let first = put_id(out, at, id);
-    let second = put_byte(out, first, b" ", st1.bits);
-    let third = put_byte(out, second, b" ", st2.bits);
+    let first = put_id(out, at, row.id);
+    let second = put_byte(out, first, b" ", row.st1.bits);
+    let third = put_byte(out, second, b" ", row.st2.bits);
     let fourth = put_field(out, third, b" ", stored);
-    let last = put_field(out, fourth, b" ", id.copies(stored));
+    let last = put_field(out, fourth, b" ", row.id.copies(stored));
     put_word(out, last, b"\n")
 }
 
@@ -97,10 +93,8 @@ fn put_rows(out: &mut [u8], start: usize, kind: Kind, block: &[u8], count: u8) -
     ensures { Laid out.old start (row_lines kind block.now 0 count) out.new result }
 {
     let mut at = start;
-    let mut k: u8 = 0;
-    while k < count {
+    for k in 0..count {
         at = put_row(out, at, tracks::sector_row(kind, block, k));
-        k += 1;
     }
     at
 }
@@ -132,16 +126,18 @@ pub fn put_tracks(out: &mut [u8], place: usize, image: &[u8], start: Walk) -> us
     requires { Listable image.now start place (length out.old) }
     ensures { Laid out.old place (track_lines (to_come image.now start)) out.new result }
 {
-    let kind = start.kind;
     let mut walk = start;
     let mut at = place;
+    // A step tells that the walk has ended.
     loop {
-        match walk.step(image) {
-            Step::Refused(_) => return at,
+        let Ok(step) = walk.step(image) else {
+            return at;
+        };
+        match step {
             Step::End => return at,
             Step::Absent(rest) => walk = rest,
             Step::Track(head, rest) => {
-                at = put_track(out, at, kind, walk.block(image), head);
+                at = put_track(out, at, start.kind, walk.block(image), head);
                 walk = rest;
             }
         }
@@ -173,8 +169,8 @@ pub fn put_disk(out: &mut [u8], kind: Kind, totals: Totals) -> usize
 
 // Lays the line of a refusal.
 pub fn put_refusal(out: &mut [u8], why: Refusal) -> usize
-    requires { length (printed_as (refused why)) ≤ length out.old }
-    ensures { Laid out.old 0 (printed_as (refused why)) out.new result }
+    requires { length (printed_as (Err why)) ≤ length out.old }
+    ensures { Laid out.old 0 (printed_as (Err why)) out.new result }
 {
     let last = put_byte(out, 0, b"refused ", why.number());
     put_word(out, last, b"\n")

@@ -1,499 +1,313 @@
 // The calls of a session, on a controller and two disks.
-ghost use Rattle.std.specs.Prelude.{◌≡◌, ◌≤◌, length};
+ghost use Rattle.std.specs.Prelude.{◌≤◌};
 
 use crate::show::Heard;
 use crate::{sheets, show};
-use floppy::{After, Changed, Floppy, Shown};
-use registers::{Byte, Receipt, Regs};
+use fields::{DATA, Refusal};
+use floppy::{Floppy, Shown};
+use registers::{Regs, Report};
 use std::io;
 use std::io::Write;
-use store::Done;
+use store::TABLE;
 
-// The tables of both disks, and their data: A's, and behind them B's.
-pub type Tables = [u8; 35218];
-
-pub type Contents = [u8; 2097152];
-
-// The transfer buffer, longer than its room can be.
-pub type Transfer = [u8; 131072];
-
-// How long a transfer buffer is.
-const LONGEST: usize = 131072;
-
-// The controller, whether it is lent to the port calls, which disk is in its drive (0 none, 1 A, 2 B), and how many bytes
-// of each buffer are lent.
+// A call, by the number that stands for it in a session.
 #[derive(Clone, Copy)]
+pub enum Kind {
+    Put,
+    Motor,
+    Status,
+    Read,
+    Send,
+    Ask,
+    Boxes,
+    Lend,
+    Table,
+    Number,
+    Sheet,
+    Resume,
+}
+
+// 10 and every number that stands for no call changes a number of the controller.
+impl From<u8> for Kind {
+    fn from(number: u8) -> Kind {
+        match number {
+            1 => Kind::Put,
+            2 => Kind::Motor,
+            3 => Kind::Status,
+            4 => Kind::Read,
+            5 => Kind::Send,
+            6 => Kind::Ask,
+            7 => Kind::Boxes,
+            8 => Kind::Lend,
+            9 => Kind::Table,
+            11 => Kind::Sheet,
+            12 => Kind::Resume,
+            _ => Kind::Number,
+        }
+    }
+}
+
+// The two disks.
+#[derive(Clone, Copy)]
+pub enum Disk {
+    A,
+    B,
+}
+
+// The controller, whether it is lent to the port calls, which disk is in its drive, and how many bytes of each buffer are lent. The tables of both
+// disks, and their data: A's, and behind them B's. The transfer buffer is longer than its room can be.
+#[derive(Drop)]
 pub struct Bench {
     pub floppy: Floppy,
     pub lent: bool,
-    pub disk: usize,
+    pub disk: Option<Disk>,
     pub table: usize,
-    pub data: usize,
-    pub transfer: usize,
+    pub bytes: usize,
+    pub room: usize,
+    pub tables: [u8; 35218],
+    pub contents: [u8; 2097152],
+    pub transfer: [u8; 131072],
 }
 
-// What port reads gave, whether they were refused, and the controller then.
+// How far bytes were sent before one was refused: whole rounds, and bytes of the next one.
 #[derive(Clone, Copy)]
-struct Answers {
-    floppy: Floppy,
-    heard: Heard,
-    done: Done,
-}
-
-// How far bytes were sent: whole rounds, bytes of the next one, whether all, and the controller then.
-#[derive(Clone, Copy)]
-struct Sent {
-    floppy: Floppy,
+struct Stopped {
     rounds: usize,
     taken: usize,
-    done: Done,
-}
-
-// A new controller without a disk, and the most that is lent of each buffer.
-pub(crate) fn new_bench(lent: bool) -> Bench {
-    Bench {
-        floppy: Floppy::new(),
-        lent,
-        disk: 0,
-        table: store::TABLE,
-        data: fields::DATA,
-        transfer: fields::TRANSFER,
-    }
+    why: Refusal,
 }
 
 // Where a disk's part of a buffer begins that has A's and behind it B's.
-pub(crate) fn start_of(disk: usize, each: usize) -> usize
+pub(crate) fn start_of(disk: Option<Disk>, each: usize) -> usize
     ensures { result ≤ each }
 {
-    if disk == 2 { each } else { 0 }
-}
-
-// The same bench with another controller.
-fn with(mut bench: Bench, floppy: Floppy) -> Bench {
-    bench.floppy = floppy;
-    bench
-}
-
-// Whether a byte was taken, or why not.
-fn done_of(receipt: Receipt) -> Done {
-    match receipt {
-        Receipt::Refused(why) => Done::Refused(why),
-        Receipt::Good(_) => Done::Good,
+    match disk {
+        Some(Disk::B) => each,
+        _ => 0,
     }
-}
-
-// The bench after a change of motor or disk.
-fn changed<W: Write>(out: &mut W, bench: Bench, a: Changed) -> io::Result<Bench> {
-    let done = a.done;
-    show::end(out, done)?;
-    let after = a.floppy;
-    Ok(with(bench, after))
-}
-
-// Puts disk A or B in, or takes out what is in.
-fn put<W: Write>(out: &mut W, mut bench: Bench, which: usize) -> io::Result<Bench> {
-    if which == 0 {
-        replay::put(out, b"put none")?;
-    } else if which == 1 {
-        replay::put(out, b"put a")?;
-    } else {
-        replay::put(out, b"put b")?;
-    }
-    let f = bench.floppy;
-    let a = f.set_disk(0 < which);
-    let done = a.done;
-    match done {
-        Done::Refused(_) => {}
-        Done::Good => bench.disk = which,
-    }
-    changed(out, bench, a)
-}
-
-fn motor<W: Write>(out: &mut W, bench: Bench, on: bool) -> io::Result<Bench> {
-    if on {
-        replay::put(out, b"motor on")?;
-    } else {
-        replay::put(out, b"motor off")?;
-    }
-    let f = bench.floppy;
-    changed(out, bench, f.set_motor(on))
-}
-
-// A read of the data port or of the status, over a lent controller or by value.
-fn read_once(f: Floppy, dataport: bool, lent: bool, transfer: &[u8]) -> Shown {
-    if dataport {
-        if lent {
-            return f.read_lent(transfer);
-        }
-        return f.read_step(transfer);
-    }
-    if lent {
-        return f.status_lent();
-    }
-    f.status_step()
-}
-
-// A byte sent, likewise.
-fn write_once(
-    f: Floppy,
-    lent: bool,
-    b: u8,
-    table: &mut [u8],
-    bytes: &mut [u8],
-    transfer: &mut [u8],
-) -> After {
-    if lent {
-        return f.write_lent(b, table, bytes, transfer);
-    }
-    f.write_step(b, table, bytes, transfer)
-}
-
-// One byte more was given.
-fn hears(mut h: Heard, b: u8) -> Heard {
-    let at = h.count;
-    if at < 24 {
-        h.first[at] = b;
-    }
-    h.check = replay::check_with(h.check, b);
-    h.count = (at % 65536) + 1;
-    h
-}
-
-// Reads a port so many times, or until it is refused.
-fn reads(floppy: Floppy, dataport: bool, times: usize, lent: bool, transfer: &[u8]) -> Answers {
-    let mut f = floppy;
-    let mut heard = Heard {
-        count: 0,
-        check: 0,
-        first: [0; 24],
-    };
-    let mut left = times;
-    while 0 < left {
-        let a = read_once(f, dataport, lent, transfer);
-        let byte = a.byte;
-        f = a.floppy;
-        match byte {
-            Byte::Refused(why) => {
-                return Answers {
-                    floppy: f,
-                    heard,
-                    done: Done::Refused(why),
-                };
-            }
-            Byte::Of(b) => heard = hears(heard, b),
-        }
-        left -= 1;
-    }
-    Answers {
-        floppy: f,
-        heard,
-        done: Done::Good,
-    }
-}
-
-// Reads a port, and shows what that gave.
-fn read<W: Write>(
-    out: &mut W,
-    bench: Bench,
-    dataport: bool,
-    times: usize,
-    transfer: &[u8],
-) -> io::Result<Bench> {
-    let room = buffer::part(transfer, 0, bench.transfer);
-    let a = reads(bench.floppy, dataport, times, bench.lent, room);
-    let done = a.done;
-    show::gave(out, a.heard)?;
-    show::end(out, done)?;
-    let after = a.floppy;
-    Ok(with(bench, after))
-}
-
-// Sends bytes, up to one that is refused.
-fn send_round(
-    floppy: Floppy,
-    text: &[u8],
-    lent: bool,
-    table: &mut [u8],
-    bytes: &mut [u8],
-    transfer: &mut [u8],
-) -> Sent {
-    let mut f = floppy;
-    let mut k: usize = 0;
-    while k < text.len() {
-        let a = write_once(f, lent, text[k], table, bytes, transfer);
-        let receipt = a.receipt;
-        let done = done_of(receipt);
-        f = a.floppy;
-        match done {
-            Done::Refused(_) => {
-                return Sent {
-                    floppy: f,
-                    rounds: 0,
-                    taken: k,
-                    done,
-                };
-            }
-            Done::Good => {}
-        }
-        k += 1;
-    }
-    Sent {
-        floppy: f,
-        rounds: 1,
-        taken: 0,
-        done: Done::Good,
-    }
-}
-
-// Sends bytes so many times, up to one that is refused.
-fn send_times(
-    floppy: Floppy,
-    text: &[u8],
-    times: usize,
-    lent: bool,
-    table: &mut [u8],
-    bytes: &mut [u8],
-    transfer: &mut [u8],
-) -> Sent {
-    let mut f = floppy;
-    let mut k: usize = 0;
-    while k < times {
-        let s = send_round(f, text, lent, table, bytes, transfer);
-        let done = s.done;
-        f = s.floppy;
-        match done {
-            Done::Refused(_) => {
-                return Sent {
-                    floppy: f,
-                    rounds: k,
-                    taken: s.taken,
-                    done,
-                };
-            }
-            Done::Good => {}
-        }
-        k += 1;
-    }
-    Sent {
-        floppy: f,
-        rounds: k,
-        taken: 0,
-        done: Done::Good,
-    }
-}
-
-// Sends bytes over as much of the buffers as is lent.
-fn send_lent(
-    bench: Bench,
-    text: &[u8],
-    times: usize,
-    tables: &mut [u8],
-    contents: &mut [u8],
-    transfer: &mut [u8],
-) -> Sent
-    requires { (length tables.old ≡ 35218) × ((length contents.old ≡ 2097152) × (length transfer.old ≡ 131072)) }
-{
-    let from = start_of(bench.disk, store::TABLE);
-    let to = from + buffer::least(bench.table, store::TABLE);
-    let start = start_of(bench.disk, fields::DATA);
-    let stop = start + buffer::least(bench.data, fields::DATA);
-    let room = buffer::least(bench.transfer, LONGEST);
-    send_times(
-        bench.floppy,
-        text,
-        times,
-        bench.lent,
-        &mut tables[from..to],
-        &mut contents[start..stop],
-        &mut transfer[..room],
-    )
-}
-
-fn send<W: Write>(
-    out: &mut W,
-    bench: Bench,
-    times: usize,
-    text: &[u8],
-    tables: &mut Tables,
-    contents: &mut Contents,
-    transfer: &mut Transfer,
-) -> io::Result<Bench> {
-    show::number(out, b"send", times)?;
-    replay::field(out, text.len() as u64)?;
-    show::bytes(out, text)?;
-    let s = send_lent(bench, text, times, tables, contents, transfer);
-    let done = s.done;
-    match done {
-        Done::Refused(_) => {
-            show::number(out, b" after", s.rounds)?;
-            replay::field(out, s.taken as u64)?;
-        }
-        Done::Good => {}
-    }
-    show::end(out, done)?;
-    let after = s.floppy;
-    Ok(with(bench, after))
-}
-
-// A call that changes what a test finds, with its number and its value.
-fn told<W: Write>(out: &mut W, word: &[u8], n: usize, value: usize) -> io::Result<()> {
-    show::number(out, word, n)?;
-    replay::field(out, value as u64)?;
-    replay::put(out, b"\n")
-}
-
-// So much of a buffer is lent from now on: 1 the table, 2 the data, 3 the transfer buffer.
-fn lend<W: Write>(out: &mut W, mut bench: Bench, which: usize, len: usize) -> io::Result<Bench> {
-    told(out, b"lend", which, len)?;
-    match which {
-        1 => bench.table = len,
-        2 => bench.data = len,
-        _ => bench.transfer = len,
-    }
-    Ok(bench)
-}
-
-// A byte of the table of the disk in the drive is changed.
-fn set_table<W: Write>(
-    out: &mut W,
-    disk: usize,
-    at: usize,
-    b: u8,
-    tables: &mut Tables,
-) -> io::Result<()> {
-    told(out, b"table", at, b as usize)?;
-    let start = start_of(disk, store::TABLE);
-    if at < store::TABLE {
-        tables[start + at] = b;
-    }
-    Ok(())
 }
 
 // The registers with another number: 1 and 2 place and fill of the reply, 3 the bytes of a command, 4 the lost count,
 // 5 and 6 place and fill of the data, 7 and 8 fill and c1 of a write.
-fn renumbered(mut r: Regs, which: usize, value: usize) -> Regs {
+fn renumbered(r: Regs, which: usize, value: usize) -> Regs {
     let small = (value % 256) as u8;
     let large = (value % 1048576) as u32;
     let mut w = r.write;
     match which {
-        1 => r.place = small,
-        2 => r.fill = small,
-        3 => r.count = small,
-        4 => r.lost = small,
-        5 => r.from = large,
-        6 => r.until = large,
-        7 => w.taken = (value % 65536) as u16,
-        _ => w.c1 = small,
-    }
-    r.write = w;
-    r
-}
-
-// A number of the controller is changed.
-fn set_number<W: Write>(
-    out: &mut W,
-    bench: Bench,
-    which: usize,
-    value: usize,
-) -> io::Result<Bench> {
-    told(out, b"number", which, value)?;
-    let f = bench.floppy;
-    let held = f.held;
-    let regs = renumbered(f.regs, which, value);
-    Ok(with(bench, Floppy { regs, held }))
-}
-
-// The controller is written out as a sheet and read back, and the disk that was in is put in again.
-fn pause<W: Write>(out: &mut W, bench: Bench, transfer: &mut Transfer) -> io::Result<Bench> {
-    replay::put(out, b"sheet")?;
-    let a = sheets::rewrite(out, bench.floppy, bench.transfer, transfer)?;
-    let done = a.done;
-    match done {
-        Done::Refused(_) => changed(out, bench, a),
-        Done::Good => {
-            let f = a.floppy;
-            changed(out, bench, f.set_disk(0 < bench.disk))
-        }
-    }
-}
-
-// Bytes are read as a sheet, whose controller has no disk.
-fn resume<W: Write>(
-    out: &mut W,
-    mut bench: Bench,
-    text: &[u8],
-    transfer: &mut Transfer,
-) -> io::Result<Bench> {
-    show::number(out, b"resume", text.len())?;
-    show::bytes(out, text)?;
-    let a = sheets::take_up(bench.floppy, text, bench.transfer, transfer);
-    let done = a.done;
-    match done {
-        Done::Refused(_) => {}
-        Done::Good => {
-            replay::put(out, b" done")?;
-            bench.disk = 0;
-        }
-    }
-    changed(out, bench, a)
-}
-
-// A call that is lent no store.
-fn at_ports<W: Write>(
-    out: &mut W,
-    bench: Bench,
-    kind: usize,
-    number: usize,
-    text: &[u8],
-    transfer: &[u8],
-) -> io::Result<Bench> {
-    match kind {
-        1 => put(out, bench, number),
-        2 => motor(out, bench, number == 1),
-        3 => {
-            show::number(out, b"status", number)?;
-            read(out, bench, false, number, transfer)
-        }
-        4 => {
-            show::number(out, b"read", number)?;
-            read(out, bench, true, number, transfer)
-        }
-        6 => {
-            show::ask(out, bench.floppy)?;
-            Ok(bench)
-        }
+        1 => Regs { place: small, ..r },
+        2 => Regs { fill: small, ..r },
+        3 => Regs { count: small, ..r },
+        4 => Regs { lost: small, ..r },
+        5 => Regs { from: large, ..r },
+        6 => Regs { until: large, ..r },
         7 => {
-            show::boxes(out, bench.floppy, transfer)?;
-            Ok(bench)
+            w.taken = (value % 65536) as u16;
+            Regs { write: w, ..r }
         }
-        8 => lend(out, bench, number, replay::number(text, 0)),
-        _ => set_number(out, bench, number, replay::number(text, 0)),
+        _ => {
+            w.c1 = small;
+            Regs { write: w, ..r }
+        }
     }
 }
 
-// Makes a call of this kind.
-pub(crate) fn make<W: Write>(
-    out: &mut W,
-    bench: Bench,
-    kind: usize,
-    number: usize,
-    text: &[u8],
-    tables: &mut Tables,
-    contents: &mut Contents,
-    transfer: &mut Transfer,
-) -> io::Result<Bench> {
-    if kind == 5 {
-        return send(out, bench, number, text, tables, contents, transfer);
+impl Bench {
+    // What a call answered; its controller is kept.
+    fn keep<T: Copy>(&mut self, shown: Shown<T>) -> Result<T, Refusal> {
+        self.floppy = shown.floppy;
+        shown.answer
     }
-    if kind == 9 {
-        set_table(out, bench.disk, number, fields::byte(text, 0) as u8, tables)?;
-        return Ok(bench);
+
+    // Puts disk A or B in, or takes out what is in.
+    fn put<W: Write>(&mut self, out: &mut W, number: usize) -> io::Result<()> {
+        let (name, disk) = match number {
+            0 => ("none", None),
+            1 => ("a", Some(Disk::A)),
+            2 => ("b", Some(Disk::B)),
+            _ => ("b", Some(Disk::A)),
+        };
+        write!(out, "put {name}")?;
+        let shown = self.floppy.set_disk(disk.is_some());
+        let done = self.keep(shown);
+        if done.is_ok() {
+            self.disk = disk;
+        }
+        show::end(out, done)
     }
-    if kind == 11 {
-        return pause(out, bench, transfer);
+
+    fn motor<W: Write>(&mut self, out: &mut W, on: bool) -> io::Result<()> {
+        write!(out, "motor {}", if on { "on" } else { "off" })?;
+        let shown = self.floppy.set_motor(on);
+        let done = self.keep(shown);
+        show::end(out, done)
     }
-    if kind == 12 {
-        return resume(out, bench, text, transfer);
+
+    // A read of the data port or of the status, over a lent controller or by value.
+    fn read_once(&mut self, dataport: bool) -> Result<u8, Refusal> {
+        let room = buffer::part(&self.transfer, 0, self.room);
+        match (dataport, self.lent) {
+            (true, true) => self.floppy.read_cmd(room),
+            (false, true) => self.floppy.read_status(),
+            (true, false) => {
+                let shown = self.floppy.read_step(room);
+                self.keep(shown)
+            }
+            (false, false) => {
+                let shown = self.floppy.status_step();
+                self.keep(shown)
+            }
+        }
     }
-    at_ports(out, bench, kind, number, text, transfer)
+
+    // Reads a port so many times, or until it is refused; what that gave is heard.
+    fn hear(&mut self, heard: &mut Heard, dataport: bool, times: usize) -> Result<(), Refusal> {
+        for _ in 0..times {
+            heard.add(self.read_once(dataport)?);
+        }
+        Ok(())
+    }
+
+    // Reads a port, and shows what that gave.
+    fn read<W: Write>(&mut self, out: &mut W, dataport: bool, times: usize) -> io::Result<()> {
+        let mut heard = Heard::nothing();
+        let done = self.hear(&mut heard, dataport, times);
+        heard.show(out)?;
+        show::end(out, done)
+    }
+
+    // Sends a byte over as much of the buffers as is lent, likewise.
+    fn send_once(&mut self, b: u8) -> Result<Report, Refusal> {
+        let from = start_of(self.disk, TABLE);
+        let to = from + self.table.min(TABLE);
+        let start = start_of(self.disk, DATA);
+        let stop = start + self.bytes.min(DATA);
+        let tables = &mut self.tables[..];
+        let table = &mut tables[from..to];
+        let contents = &mut self.contents[..];
+        let bytes = &mut contents[start..stop];
+        let transfer = &mut self.transfer[..];
+        let room = self.room.min(transfer.len());
+        if self.lent {
+            return self
+                .floppy
+                .write_cmd(b, table, bytes, &mut transfer[..room]);
+        }
+        let shown = self
+            .floppy
+            .write_step(b, table, bytes, &mut transfer[..room]);
+        self.keep(shown)
+    }
+
+    // Sends bytes so many times, up to one that is refused.
+    fn send_times(&mut self, text: &[u8], times: usize) -> Result<(), Stopped> {
+        for rounds in 0..times {
+            for (taken, b) in text.iter().enumerate() {
+                if let Err(why) = self.send_once(*b) {
+                    return Err(Stopped { rounds, taken, why });
+                }
+            }
+        }
+        Ok(())
+    }
+
+    fn send<W: Write>(&mut self, out: &mut W, times: usize, text: &[u8]) -> io::Result<()> {
+        write!(out, "send {times} {}", text.len())?;
+        show::bytes(out, text)?;
+        let Err(stopped) = self.send_times(text, times) else {
+            return show::end(out, Ok(()));
+        };
+        write!(out, " after {} {}", stopped.rounds, stopped.taken)?;
+        show::end(out, Err(stopped.why))
+    }
+
+    // So much of a buffer is lent from now on: 1 the table, 2 the data, 3 the transfer buffer.
+    fn lend<W: Write>(&mut self, out: &mut W, which: usize, len: usize) -> io::Result<()> {
+        match which {
+            1 => self.table = len,
+            2 => self.bytes = len,
+            _ => self.room = len,
+        }
+        writeln!(out, "lend {which} {len}")
+    }
+
+    // A byte of the table of the disk in the drive is changed.
+    fn set_table<W: Write>(&mut self, out: &mut W, at: usize, b: u8) -> io::Result<()> {
+        if at < TABLE {
+            let start = start_of(self.disk, TABLE);
+            self.tables[start + at] = b;
+        }
+        writeln!(out, "table {at} {b}")
+    }
+
+    // A number of the controller is changed.
+    fn set_number<W: Write>(&mut self, out: &mut W, which: usize, value: usize) -> io::Result<()> {
+        let f = self.floppy;
+        self.floppy = Floppy {
+            regs: renumbered(f.regs, which, value),
+            ..f
+        };
+        writeln!(out, "number {which} {value}")
+    }
+
+    // Keeps a controller that was read from a sheet, with the disk that was in.
+    fn put_back(&mut self, read: Shown<()>) -> Result<(), Refusal> {
+        self.keep(read)?;
+        let shown = self.floppy.set_disk(self.disk.is_some());
+        self.keep(shown)
+    }
+
+    // The controller is written out as a sheet and read back, and the disk that was in is put in again.
+    fn pause<W: Write>(&mut self, out: &mut W) -> io::Result<()> {
+        write!(out, "sheet")?;
+        let transfer = &mut self.transfer[..];
+        let room = self.room.min(transfer.len());
+        let read = sheets::rewrite(out, self.floppy, &mut transfer[..room])?;
+        let done = self.put_back(read);
+        show::end(out, done)
+    }
+
+    // Bytes are read as a sheet, whose controller has no disk.
+    fn resume<W: Write>(&mut self, out: &mut W, text: &[u8]) -> io::Result<()> {
+        write!(out, "resume {}", text.len())?;
+        show::bytes(out, text)?;
+        let transfer = &mut self.transfer[..];
+        let room = self.room.min(transfer.len());
+        let read = sheet::read(self.floppy, text, &mut transfer[..room]);
+        let done = self.keep(read);
+        if done.is_ok() {
+            write!(out, " done")?;
+            self.disk = None;
+        }
+        show::end(out, done)
+    }
+
+    // Makes a call.
+    pub(crate) fn make<W: Write>(
+        &mut self,
+        out: &mut W,
+        kind: Kind,
+        number: usize,
+        text: &[u8],
+    ) -> io::Result<()> {
+        match kind {
+            Kind::Put => self.put(out, number),
+            Kind::Motor => self.motor(out, number == 1),
+            Kind::Status => {
+                write!(out, "status {number}")?;
+                self.read(out, false, number)
+            }
+            Kind::Read => {
+                write!(out, "read {number}")?;
+                self.read(out, true, number)
+            }
+            Kind::Send => self.send(out, number, text),
+            Kind::Ask => show::ask(out, self.floppy),
+            Kind::Boxes => show::boxes(out, self.floppy, &self.transfer),
+            Kind::Lend => self.lend(out, number, replay::number(text, 0)),
+            Kind::Table => self.set_table(out, number, fields::byte(text, 0) as u8),
+            Kind::Number => self.set_number(out, number, replay::number(text, 0)),
+            Kind::Sheet => self.pause(out),
+            Kind::Resume => self.resume(out, text),
+        }
+    }
 }

@@ -1,85 +1,44 @@
 // The list of sessions, as it is taken from standard input.
-ghost use Rattle.std.specs.Prelude.{◌≤◌, length};
-
-use replay::Chunk;
-use std::io;
+use replay::Fault;
 use std::io::Read;
 
-// A session: its name, the images of its two disks and its calls, each from a place of its own.
-pub type List = [u8; 196864];
+// Room for the parts of a session: its name, the images of its two disks, and its calls.
+#[derive(Drop)]
+pub struct List {
+    pub name: [u8; 256],
+    pub a: [u8; 65536],
+    pub b: [u8; 65536],
+    pub calls: [u8; 65536],
+}
 
-const IMAGE_A: usize = 256;
-
-const IMAGE_B: usize = 65792;
-
-const CALLS: usize = 131328;
-
-const END: usize = 196864;
-
-// How many bytes each of them has.
+// Those parts, as long as they are.
 #[derive(Clone, Copy)]
-pub struct Session {
-    pub name: usize,
-    pub a: usize,
-    pub b: usize,
-    pub calls: usize,
+pub struct Session<'a> {
+    pub name: &'a [u8],
+    pub a: &'a [u8],
+    pub b: &'a [u8],
+    pub calls: &'a [u8],
 }
 
-#[derive(Clone, Copy)]
-pub enum Next {
-    End,
-    Broken,
-    Of(Session),
+// Takes a part that follows a session's name.
+fn take_part<R: Read>(input: &mut R, room: &mut [u8]) -> Result<usize, Fault> {
+    replay::take_chunk(input, 4, room)?.ok_or(Fault::Broken)
 }
 
-// Takes a chunk to its place.
-fn take_part<R: Read>(
-    input: &mut R,
-    list: &mut [u8],
-    width: usize,
-    from: usize,
-    to: usize,
-) -> io::Result<Chunk>
-    requires { (from ≤ to) × (to ≤ length list.old) }
-{
-    replay::take_chunk(input, width, &mut list[from..to])
-}
-
-// Takes what follows a session's name.
-fn take_rest<R: Read>(input: &mut R, list: &mut List, name: usize) -> io::Result<Next> {
-    let Chunk::Whole(a) = take_part(input, list, 4, IMAGE_A, IMAGE_B)? else {
-        return Ok(Next::Broken);
-    };
-    let Chunk::Whole(b) = take_part(input, list, 4, IMAGE_B, CALLS)? else {
-        return Ok(Next::Broken);
-    };
-    let Chunk::Whole(calls) = take_part(input, list, 4, CALLS, END)? else {
-        return Ok(Next::Broken);
-    };
-    Ok(Next::Of(Session { name, a, b, calls }))
-}
-
-// Takes the next session.
-pub(crate) fn take_session<R: Read>(input: &mut R, list: &mut List) -> io::Result<Next> {
-    match take_part(input, list, 1, 0, IMAGE_A)? {
-        Chunk::End => Ok(Next::End),
-        Chunk::Broken => Ok(Next::Broken),
-        Chunk::Whole(name) => take_rest(input, list, name),
+impl List {
+    // Takes the next session; none where the list ends.
+    pub(crate) fn take<R: Read>(&mut self, input: &mut R) -> Result<Option<Session<'_>>, Fault> {
+        let Some(name) = replay::take_chunk(input, 1, &mut self.name)? else {
+            return Ok(None);
+        };
+        let a = take_part(input, &mut self.a)?;
+        let b = take_part(input, &mut self.b)?;
+        let calls = take_part(input, &mut self.calls)?;
+        Ok(Some(Session {
+            name: buffer::part(&self.name, 0, name),
+            a: buffer::part(&self.a, 0, a),
+            b: buffer::part(&self.b, 0, b),
+            calls: buffer::part(&self.calls, 0, calls),
+        }))
     }
-}
-
-pub(crate) fn name<'a>(list: &'a List, s: Session) -> &'a [u8] {
-    buffer::part(list, 0, s.name)
-}
-
-pub(crate) fn image_a<'a>(list: &'a List, s: Session) -> &'a [u8] {
-    buffer::part(list, IMAGE_A, s.a)
-}
-
-pub(crate) fn image_b<'a>(list: &'a List, s: Session) -> &'a [u8] {
-    buffer::part(list, IMAGE_B, s.b)
-}
-
-pub(crate) fn calls<'a>(list: &'a List, s: Session) -> &'a [u8] {
-    buffer::part(list, CALLS, s.calls)
 }

@@ -1,164 +1,148 @@
 // What calls answer, and what the controller and the disks hold, as docs/ORACLE.md has it.
+use fields::Refusal;
 use floppy::Floppy;
-use registers::{Byte, Flag, Regs, Seek};
-use std::io;
+use registers::Regs;
 use std::io::Write;
-use store::Done;
+use std::{fmt, io};
 
 // More bytes are not printed one by one.
-const MOST_HEX: usize = 24;
+pub const MOST_HEX: usize = 24;
 
 // A disk with more tracks or sectors is not printed whole.
 const MOST_PRINTED: usize = 40;
 
+// Bytes one by one, a space before each.
+#[derive(Clone, Copy)]
+struct Hex<'a>(&'a [u8]);
+
+impl fmt::Display for Hex<'_> {
+    fn fmt<W: fmt::Write>(&self, f: &mut fmt::Formatter<W>) -> fmt::Result {
+        for b in self.0 {
+            write!(f, " {b:02x}")?;
+        }
+        Ok(())
+    }
+}
+
 // What port reads gave: how many bytes, their check number, and the first of them.
 #[derive(Clone, Copy)]
 pub struct Heard {
-    pub count: usize,
-    pub check: u32,
-    pub first: [u8; MOST_HEX],
+    count: usize,
+    check: u32,
+    first: [u8; MOST_HEX],
 }
 
-// How far it is from one place to another, 0 where that comes first.
-fn distance(from: usize, to: usize) -> usize {
-    if to < from { 0 } else { to - from }
-}
-
-fn hex<W: Write>(out: &mut W, bytes: &[u8]) -> io::Result<()> {
-    let mut k: usize = 0;
-    while k < bytes.len() {
-        let byte = replay::byte(bytes, k);
-        write!(out, " {byte:02x}")?;
-        k += 1;
+impl Heard {
+    pub(crate) fn nothing() -> Heard {
+        Heard {
+            count: 0,
+            check: 0,
+            first: [0; MOST_HEX],
+        }
     }
-    Ok(())
+
+    // One byte more was given.
+    pub(crate) fn add(&mut self, b: u8) {
+        let at = self.count;
+        if at < MOST_HEX {
+            self.first[at] = b;
+        }
+        self.check = replay::check_with(self.check, b);
+        self.count = at.saturating_add(1);
+    }
+
+    pub(crate) fn show<W: Write>(&self, out: &mut W) -> io::Result<()> {
+        hex_or_check(out, self.count, self.check, &self.first)
+    }
 }
 
 // Bytes one by one, or their check number where they are many.
 fn hex_or_check<W: Write>(out: &mut W, count: usize, check: u32, first: &[u8]) -> io::Result<()> {
     if MOST_HEX < count {
-        replay::put(out, b" check")?;
-        return replay::field(out, check as u64);
+        return write!(out, " check {check}");
     }
-    replay::put(out, b":")?;
-    hex(out, buffer::part(first, 0, count))
+    write!(out, ":{}", Hex(buffer::part(first, 0, count)))
 }
 
 pub(crate) fn bytes<W: Write>(out: &mut W, bytes: &[u8]) -> io::Result<()> {
     hex_or_check(out, bytes.len(), replay::check_of(bytes), bytes)
 }
 
-pub(crate) fn gave<W: Write>(out: &mut W, h: Heard) -> io::Result<()> {
-    let first = h.first;
-    hex_or_check(out, h.count, h.check, &first)
-}
-
-// A word, and a number.
-pub(crate) fn number<W: Write>(out: &mut W, word: &[u8], n: usize) -> io::Result<()> {
-    replay::put(out, word)?;
-    replay::field(out, n as u64)
-}
-
-fn refused<W: Write>(out: &mut W, why: fields::Refusal) -> io::Result<()> {
-    number(out, b" refused", why.number() as usize)
+fn refused<W: Write>(out: &mut W, why: Refusal) -> io::Result<()> {
+    write!(out, " refused {}", why.number())
 }
 
 // The end of a call's line.
-pub(crate) fn end<W: Write>(out: &mut W, done: Done) -> io::Result<()> {
-    match done {
-        Done::Refused(why) => refused(out, why)?,
-        Done::Good => {}
+pub(crate) fn end<W: Write>(out: &mut W, done: Result<(), Refusal>) -> io::Result<()> {
+    if let Err(why) = done {
+        refused(out, why)?;
     }
-    replay::put(out, b"\n")
+    writeln!(out)
 }
 
-fn flag<W: Write>(out: &mut W, flag: Flag) -> io::Result<()> {
-    match flag {
-        Flag::Refused(why) => refused(out, why),
-        Flag::Of(yes) => replay::field(out, yes as u64),
+// A number that a controller tells of itself.
+fn told<W: Write>(out: &mut W, name: &str, answer: Result<u8, Refusal>) -> io::Result<()> {
+    write!(out, " {name}")?;
+    match answer {
+        Err(why) => refused(out, why),
+        Ok(n) => write!(out, " {n}"),
     }
 }
 
 // Motor, track, and whether a disk is in.
 pub(crate) fn ask<W: Write>(out: &mut W, f: Floppy) -> io::Result<()> {
-    replay::put(out, b"ask motor")?;
-    flag(out, f.motor())?;
-    replay::put(out, b" track")?;
-    match f.current_track() {
-        Byte::Refused(why) => refused(out, why)?,
-        Byte::Of(c) => replay::field(out, c as u64)?,
-    }
-    replay::put(out, b" disk")?;
-    flag(out, f.disk())?;
-    replay::put(out, b"\n")
-}
-
-fn seek_number(seek: Seek) -> usize {
-    match seek {
-        Seek::Idle => 0,
-        Seek::Running => 1,
-        Seek::Done => 2,
-    }
-}
-
-fn work<W: Write>(out: &mut W, track: bool) -> io::Result<()> {
-    if track {
-        return replay::put(out, b" format");
-    }
-    replay::put(out, b" write")
+    write!(out, "ask")?;
+    told(out, "motor", f.motor().map(u8::from))?;
+    told(out, "track", f.current_track())?;
+    told(out, "disk", f.disk().map(u8::from))?;
+    writeln!(out)
 }
 
 // The write or the Format in progress: how many bytes it still takes, its c1 and ID or shape, and the check number of
 // those that it has.
-fn write<W: Write>(out: &mut W, f: Floppy) -> io::Result<()> {
+fn pending<W: Write>(out: &mut W, f: Floppy) -> io::Result<()> {
     let w = f.regs.write;
     if !w.on {
-        return replay::put(out, b" write none\n");
+        return writeln!(out, " write none");
     }
+    let work = if w.track { "format" } else { "write" };
     let taken = w.taken as usize;
-    work(out, w.track)?;
-    let goal = w.goal();
-    replay::field(out, distance(taken, goal.whole()) as u64)?;
+    let left = w.goal().whole().saturating_sub(taken);
     let t = w.target;
     let five = [w.c1, t.one, t.two, t.three, t.four];
-    hex(out, &five)?;
-    let held = f.held;
-    let check = replay::check_of(buffer::part(&held, 0, taken));
-    replay::field(out, check as u64)?;
-    replay::put(out, b"\n")
+    let check = replay::check_of(buffer::part(&f.held, 0, taken));
+    writeln!(out, " {work} {left}{} {check}", Hex(&five))
 }
 
 // What is unread of the reply, and of the data.
 fn unread<W: Write>(out: &mut W, r: Regs, transfer: &[u8]) -> io::Result<()> {
-    let reply = r.reply;
-    let place = r.place as usize;
-    let from = r.from as usize;
-    replay::put(out, b" reply")?;
-    let answers = buffer::part(&reply, place, distance(place, r.fill as usize));
-    hex(out, answers)?;
-    let left = buffer::part(transfer, from, distance(from, r.until as usize));
-    number(out, b" data", left.len())?;
-    replay::field(out, replay::check_of(left) as u64)
+    let reply = buffer::part(
+        &r.reply,
+        r.place as usize,
+        r.fill.saturating_sub(r.place) as usize,
+    );
+    let data = buffer::part(
+        transfer,
+        r.from as usize,
+        r.until.saturating_sub(r.from) as usize,
+    );
+    write!(out, " reply{} data {}", Hex(reply), data.len())?;
+    write!(out, " {}", replay::check_of(data))
 }
 
 // Seek state, lost count and ID index, and the bytes of a command that is partly sent.
 fn numbers<W: Write>(out: &mut W, r: Regs) -> io::Result<()> {
-    let d = r.drive;
-    let seek = d.seek;
-    let command = r.command;
-    number(out, b"boxes seek", seek_number(seek))?;
-    number(out, b" lost", r.lost as usize)?;
-    number(out, b" index", r.index as usize)?;
-    replay::put(out, b" command")?;
-    hex(out, buffer::part(&command, 0, r.count as usize))
+    let seek = r.drive.seek as u8;
+    let command = buffer::part(&r.command, 0, r.count as usize);
+    write!(out, "boxes seek {seek} lost {} index {}", r.lost, r.index)?;
+    write!(out, " command{}", Hex(command))
 }
 
 // What the ports do not show at once.
 pub(crate) fn boxes<W: Write>(out: &mut W, f: Floppy, transfer: &[u8]) -> io::Result<()> {
-    let r = f.regs;
-    numbers(out, r)?;
-    unread(out, r, transfer)?;
-    write(out, f)
+    numbers(out, f.regs)?;
+    unread(out, f.regs, transfer)?;
+    pending(out, f)
 }
 
 // A disk, whole or where that is long its totals and two check numbers: of its rows, and of all data.
@@ -167,12 +151,9 @@ pub(crate) fn disk<W: Write>(out: &mut W, table: &[u8], bytes: &[u8]) -> io::Res
     if held.tracks <= MOST_PRINTED && held.sectors <= MOST_PRINTED {
         return replay::show_tracks(out, table, bytes);
     }
-    replay::show_totals(out, held.tracks, held.sectors, held.bytes)?;
+    replay::show_totals(out, held)?;
     let rows = 1 + 6 * (held.tracks % 65536) + 8 * (held.sectors % 65536);
-    replay::put(out, b"check")?;
     let of_rows = replay::check_of(buffer::part(table, 0, rows));
-    replay::field(out, of_rows as u64)?;
     let of_data = replay::check_of(buffer::part(bytes, 0, held.bytes));
-    replay::field(out, of_data as u64)?;
-    replay::put(out, b"\n")
+    writeln!(out, "check {of_rows} {of_data}")
 }

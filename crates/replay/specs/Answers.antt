@@ -1,13 +1,10 @@
 -- What the functions that read a list, or sum a result up, answer.
-use Rattle.std.specs.Prelude.{ℕ, ◌+◌, ◌*◌, ◌%◌, ◌≤◌, ◌≡◌, List, [], ◌∷◌, Bool, true, cond, length, leb}
+use Rattle.std.specs.Prelude.{ℕ, ◌+◌, ◌*◌, ◌%◌, ◌≤◌, ◌≡◌, List, [], ◌∷◌, Bool, true, cond, length, leb, Result, Ok, Err, Option, None, Some}
 use Rattle.fields.specs.Bytes.{number_at}
-use Rattle.store.specs.declared.check.Tallied.{Tallied}
-use Rattle.store.specs.declared.check.Tallied.TheVariants.{Bad, Good}
 use Rattle.replay.specs.declared.Amount.{Amount}
-use Rattle.replay.specs.declared.Chunk.{Chunk}
-use Rattle.replay.specs.declared.Chunk.TheVariants as chunk
 use Rattle.replay.specs.declared.Record.{Record}
-use Rattle.replay.specs.declared.Record.TheVariants.{End, Broken, Whole}
+use Rattle.fields.specs.declared.refusal.Refusal.{Refusal}
+use Rattle.store.specs.declared.check.Tallied.{Tallied}
 
 -- the check number of bytes and of one more
 abbrev pub check_with : ℕ → ℕ → ℕ
@@ -23,22 +20,20 @@ unfoldable pub number_in : List ℕ → ℕ → ℕ
 number_in b at = cond (leb (at + 4) (length b)) (number_at 4 b at) 0
 
 -- how much a disk holds, from the check of its store and its count of tracks
-abbrev pub held_in : Tallied → ℕ → Amount
-held_in Bad tracks = record { tracks = 0; sectors = 0; bytes = 0 }
-held_in (Good sectors bytes end) tracks = record { tracks = tracks; sectors = sectors; bytes = bytes }
+abbrev pub held_in : Result Tallied Refusal → ℕ → Amount
+held_in (Err why) tracks = record { tracks = 0; sectors = 0; bytes = 0 }
+held_in (Ok ta) tracks = record { tracks = tracks; sectors = ta.sectors; bytes = ta.bytes }
 
 -- a yes to so many bytes is given only where there is room for them
 abbrev pub Fits : Bool → ℕ → ℕ → Type 0
 Fits taken n room = taken ≡ true → n ≤ room
 
--- a whole chunk is no longer than the room for it
-abbrev pub ChunkFits : Chunk → ℕ → Type 0
-ChunkFits chunk.End room = Unit {0}
-ChunkFits chunk.Broken room = Unit {0}
-ChunkFits (chunk.Whole n) room = n ≤ room
+-- a chunk is no longer than the room for it
+abbrev pub ChunkFits : Option ℕ → ℕ → Type 0
+ChunkFits None room = Unit {0}
+ChunkFits (Some n) room = n ≤ room
 
--- a whole record is no longer than the room for its name and the room for its image
-abbrev pub RecordFits : Record → ℕ → ℕ → Type 0
-RecordFits End name image = Unit {0}
-RecordFits Broken name image = Unit {0}
-RecordFits (Whole letters len) name image = (letters ≤ name) × (len ≤ image)
+-- a record is no longer than the room for its name and the room for its image
+abbrev pub RecordFits : Option Record → ℕ → ℕ → Type 0
+RecordFits None name image = Unit {0}
+RecordFits (Some r) name image = (r.letters ≤ name) × (r.len ≤ image)

@@ -1,7 +1,7 @@
 // How the programs that replay a list take its records and print their answers. docs/ORACLE.md has the forms.
 #![tactic(auto)]
 
-ghost use Rattle.std.specs.Prelude.{◌≡◌, ◌+◌, ◌*◌, ◌<◌, ◌≤◌, length, drop, IfOk, OnOk};
+ghost use Rattle.std.specs.Prelude.{◌≡◌, ◌+◌, ◌*◌, ◌<◌, ◌≤◌, length, drop, IfOk, IsOk, OnOk};
 ghost use Rattle.std.specs.Io.KnownBytes.{Appends};
 ghost use Rattle.fields.specs.Bytes.{byte_at};
 ghost use Rattle.fields.specs.Capacities.{most_data};
@@ -9,33 +9,48 @@ ghost use Rattle.store.specs.Spots.{tally_of};
 ghost use Rattle.store.specs.Store.{table_length};
 ghost use Rattle.replay.specs.Answers.{check_from, check_with, held_in, number_in, Fits, ChunkFits, RecordFits};
 
-use fields::SectorId;
+use fields::{Refusal, SectorId};
 use std::io;
 use std::io::{ErrorKind, Read, Write};
 use tracks::Row;
 
 // How much a disk holds.
-#[derive(Clone, Copy)]
+#[derive(Clone, Copy, Default)]
 pub struct Amount {
     pub tracks: usize,
     pub sectors: usize,
     pub bytes: usize,
 }
 
-// What stands next in a list: no length, a length and fewer bytes or more than there is room for, or so many bytes.
-#[derive(Clone, Copy)]
-pub enum Chunk {
-    End,
-    Broken,
-    Whole(usize),
-}
-
 // A record of a list: how long its name and its image are.
 #[derive(Clone, Copy)]
-pub enum Record {
-    End,
+pub struct Record {
+    pub letters: usize,
+    pub len: usize,
+}
+
+// Why a list is taken no further: reading or writing failed, or it has a length and fewer bytes or more than there is room for.
+#[derive(Drop)]
+pub enum Fault {
+    Failed(io::Error),
     Broken,
-    Whole { letters: usize, len: usize },
+}
+
+impl From<io::Error> for Fault {
+    fn from(why: io::Error) -> Fault {
+        Fault::Failed(why)
+    }
+}
+
+// How a replay ends: a list that is broken off is told of, and what was printed stands.
+pub fn ended(rt: &impl Eprint, replayed: Result<(), Fault>, broken: &str) -> io::Result<()>
+    ensures { OnOk replayed (IsOk result) }
+{
+    match replayed {
+        Ok(()) => Ok(()),
+        Err(Fault::Broken) => eprintln!(rt; "{broken}"),
+        Err(Fault::Failed(why)) => Err(why),
+    }
 }
 
 pub fn put<W: Write>(out: &mut W, text: &[u8]) -> io::Result<()>
@@ -44,14 +59,8 @@ pub fn put<W: Write>(out: &mut W, text: &[u8]) -> io::Result<()>
     out.write_all(text)
 }
 
-pub fn field<W: Write>(out: &mut W, n: u64) -> io::Result<()> {
-    write!(out, " {n}")
-}
-
-pub fn refused<W: Write>(out: &mut W, why: fields::Refusal) -> io::Result<()> {
-    put(out, b"refused")?;
-    field(out, why.number() as u64)?;
-    put(out, b"\n")
+pub fn refused<W: Write>(out: &mut W, why: Refusal) -> io::Result<()> {
+    writeln!(out, "refused {}", why.number())
 }
 
 // The check number of bytes and of one more.
@@ -66,57 +75,38 @@ pub fn check_with(h: u32, b: u8) -> u32
 pub fn check_of(bytes: &[u8]) -> u32
     ensures { result ≡ check_from 0 bytes.now }
 {
-    let mut h: u32 = 0;
-    let mut i = 0;
-    while i < bytes.len() {
-        h = check_with(h, bytes[i]);
-        i += 1;
+    let mut h = 0;
+    for b in bytes {
+        h = check_with(h, *b);
     }
     h
 }
 
+// How long bytes are, and their check number.
 pub fn show_content<W: Write>(out: &mut W, content: &[u8]) -> io::Result<()> {
-    field(out, content.len() as u64)?;
-    field(out, check_of(content) as u64)?;
-    put(out, b"\n")
+    writeln!(out, " {} {}", content.len(), check_of(content))
 }
 
 pub fn show_id<W: Write>(out: &mut W, id: SectorId) -> io::Result<()> {
-    field(out, id.c as u64)?;
-    field(out, id.h as u64)?;
-    field(out, id.r as u64)?;
-    field(out, id.n as u64)
+    write!(out, " {} {} {} {}", id.c, id.h, id.r, id.n)
 }
 
 fn show_sector<W: Write>(out: &mut W, row: Row, content: &[u8]) -> io::Result<()> {
-    let st1 = row.st1;
-    let st2 = row.st2;
-    put(out, b"sector")?;
+    write!(out, "sector")?;
     show_id(out, row.id)?;
-    field(out, st1.bits as u64)?;
-    field(out, st2.bits as u64)?;
+    write!(out, " {} {}", row.st1.bits, row.st2.bits)?;
     show_content(out, content)
-}
-
-// The byte at a place of the table, 0 past the end.
-pub fn byte(table: &[u8], at: usize) -> u64
-    ensures { result ≡ byte_at table.now at }
-{
-    fields::byte(table, at) as u64
 }
 
 // The track at a place of the table.
 fn show_track<W: Write>(out: &mut W, table: &[u8], at: usize) -> io::Result<()>
     requires { at < table_length }
 {
-    put(out, b"track")?;
-    field(out, byte(table, at))?;
-    field(out, byte(table, at + 1))?;
-    field(out, byte(table, at + 2))?;
-    field(out, byte(table, at + 3))?;
-    field(out, byte(table, at + 4))?;
-    field(out, byte(table, at + 5))?;
-    put(out, b"\n")
+    write!(out, "track")?;
+    for k in 0..6 {
+        write!(out, " {}", fields::byte(table, at + k))?;
+    }
+    writeln!(out)
 }
 
 // The sectors of `count` rows, whose bytes start at a place; answers where they end.
@@ -132,23 +122,20 @@ fn show_sectors<W: Write>(
     ensures { IfOk result (λ end. end ≤ first + 65535 * count) }
 {
     let mut place = first;
-    let mut k: usize = 0;
-    while k < count {
+    for k in 0..count {
         let row = tracks::row_at(table, start + 8 * k);
         let stored = row.stored as usize;
         show_sector(out, row, buffer::part(bytes, place, stored))?;
         place += stored;
-        k += 1;
     }
     Ok(place)
 }
 
 // The disk, by the layout of docs/STORE.md.
 pub fn show_tracks<W: Write>(out: &mut W, table: &[u8], bytes: &[u8]) -> io::Result<()> {
-    let mut left = fields::byte(table, 0);
     let mut at: usize = 1;
     let mut place: usize = 0;
-    while 0 < left {
+    for k in 0..fields::byte(table, 0) {
         if store::TABLE <= at {
             return Ok(());
         }
@@ -156,7 +143,6 @@ pub fn show_tracks<W: Write>(out: &mut W, table: &[u8], bytes: &[u8]) -> io::Res
         show_track(out, table, at)?;
         place = show_sectors(out, table, bytes, at + 6, count, place)?;
         at += 6 + 8 * count;
-        left -= 1;
     }
     Ok(())
 }
@@ -166,47 +152,30 @@ pub fn measure(table: &[u8]) -> Amount
     ensures { result ≡ held_in (tally_of table.now most_data) (byte_at table.now 0) }
 {
     let tracks = fields::byte(table, 0);
-    match store::tally(table, fields::DATA) {
-        store::Tallied::Bad => Amount {
-            tracks: 0,
-            sectors: 0,
-            bytes: 0,
-        },
-        store::Tallied::Good {
-            sectors,
-            bytes,
-            end: _,
-        } => Amount {
-            tracks,
-            sectors,
-            bytes,
-        },
+    let Ok(held) = store::tally(table, fields::DATA) else {
+        return Amount::default();
+    };
+    Amount {
+        tracks,
+        sectors: held.sectors,
+        bytes: held.bytes,
     }
 }
 
-pub fn show_totals<W: Write>(
-    out: &mut W,
-    tracks: usize,
-    sectors: usize,
-    bytes: usize,
-) -> io::Result<()> {
-    put(out, b"disk tracks")?;
-    field(out, tracks as u64)?;
-    put(out, b" sectors")?;
-    field(out, sectors as u64)?;
-    put(out, b" bytes")?;
-    field(out, bytes as u64)?;
-    put(out, b"\n")
+pub fn show_totals<W: Write>(out: &mut W, held: Amount) -> io::Result<()> {
+    let Amount {
+        tracks,
+        sectors,
+        bytes,
+    } = held;
+    writeln!(out, "disk tracks {tracks} sectors {sectors} bytes {bytes}")
 }
 
 // The number in the four bytes at a place, 0 where they are not all there.
 pub fn number(bytes: &[u8], at: usize) -> usize
     ensures { result ≡ number_in bytes.now at }
 {
-    match fields::read_u32(bytes, at) {
-        fields::Read::Refused(_) => 0,
-        fields::Read::Number(n) => n as usize,
-    }
+    fields::read_u32(bytes, at).unwrap_or(0) as usize
 }
 
 // Reads n bytes to the front of a buffer; no where the input ends first.
@@ -224,36 +193,51 @@ pub fn take<R: Read>(input: &mut R, buf: &mut [u8], n: usize) -> io::Result<bool
     }
 }
 
-// Takes a chunk to the front of a buffer: its length in so many bytes, the lowest first, and that many bytes.
-pub fn take_chunk<R: Read>(input: &mut R, width: usize, buf: &mut [u8]) -> io::Result<Chunk>
+// The same where a list that ends first is broken.
+pub fn need<R: Read>(input: &mut R, buf: &mut [u8], n: usize) -> Result<(), Fault>
+    ensures fits { OnOk result (n ≤ length buf.old) }
+    ensures rest { drop n buf.new ≡ drop n buf.old }
+{
+    if !take(input, buf, n)? {
+        return Err(Fault::Broken);
+    }
+    Ok(())
+}
+
+// Takes a chunk to the front of a buffer: its length in so many bytes, the lowest first, and that many bytes; none where no length stands next.
+pub fn take_chunk<R: Read>(
+    input: &mut R,
+    width: usize,
+    buf: &mut [u8],
+) -> Result<Option<usize>, Fault>
     ensures fits { IfOk result (λ chunk. ChunkFits chunk (length buf.old)) }
     ensures room { length buf.new ≡ length buf.old }
 {
-    let mut small = [0u8; 4];
-    let four: &mut [u8] = &mut small;
-    if !take(input, four, width)? {
-        return Ok(Chunk::End);
+    let mut four = [0u8; 4];
+    if !take(input, &mut four, width)? {
+        return Ok(None);
     }
-    let count = number(four, 0);
+    let count = number(&four, 0);
     if !take(input, buf, count)? {
-        return Ok(Chunk::Broken);
+        return Err(Fault::Broken);
     }
-    Ok(Chunk::Whole(count))
+    Ok(Some(count))
 }
 
-// Takes a record that begins with a name and an image, and leaves both in their buffers.
-pub fn take_record<R: Read>(input: &mut R, name: &mut [u8], image: &mut [u8]) -> io::Result<Record>
+// Takes a record that begins with a name and an image, and leaves both in their buffers; none where the list ends.
+pub fn take_record<R: Read>(
+    input: &mut R,
+    name: &mut [u8],
+    image: &mut [u8],
+) -> Result<Option<Record>, Fault>
     ensures fits { IfOk result (λ r. RecordFits r (length name.old) (length image.old)) }
     ensures room { (length name.new ≡ length name.old) × (length image.new ≡ length image.old) }
 {
-    match take_chunk(input, 1, name)? {
-        Chunk::End => Ok(Record::End),
-        Chunk::Broken => Ok(Record::Broken),
-        Chunk::Whole(letters) => {
-            let Chunk::Whole(len) = take_chunk(input, 4, image)? else {
-                return Ok(Record::Broken);
-            };
-            Ok(Record::Whole { letters, len })
-        }
-    }
+    let Some(letters) = take_chunk(input, 1, name)? else {
+        return Ok(None);
+    };
+    let Some(len) = take_chunk(input, 4, image)? else {
+        return Err(Fault::Broken);
+    };
+    Ok(Some(Record { letters, len }))
 }

@@ -10,155 +10,81 @@ mod parse;
 mod print;
 mod show;
 
-use call::{Content, Controller, Table, Transfer};
+use call::Bench;
 use input::take_line;
-use parse::{Name, Parsed, Spare, parse};
+use line::Line;
+use parse::{Call, Name, parse};
 use std::io;
+use std::io::{BufRead, BufReader};
 use std::rt::Files;
 
 // No line is longer.
 const LONGEST: usize = 4096;
 
-// Makes a call, and answers how much of the transfer buffer is lent from then on.
-fn obey<R: Print + Files>(
+// Makes a call.
+fn obey<R: Print + Files + Alloc>(
     rt: &R,
-    name: Name,
-    n: usize,
-    number: u64,
-    text: &[u8],
-    lent: usize,
-    controller: &mut Controller,
-    table: &mut Table,
-    content: &mut Content,
-    transfer: &mut Transfer,
-    spare: &mut Spare,
-) -> io::Result<usize> {
-    match name {
-        Name::Unknown => {}
-        Name::Fresh => call::fresh(rt, controller, table, content)?,
-        Name::Load => call::load(
-            rt,
-            number,
-            line::rest(text),
-            controller,
-            table,
-            content,
-            spare,
-        )?,
-        Name::Out => call::remove(rt, controller)?,
-        Name::Machine => call::machine(rt, n, controller)?,
-        Name::Motor => call::motor(rt, n, controller)?,
-        Name::Status => call::status(rt, n, controller, spare)?,
-        Name::Write => call::write(rt, n, lent, controller, table, content, transfer, spare)?,
-        Name::Read => call::read(rt, n, lent, controller, transfer, spare)?,
-        Name::Transfer => {
-            print::answer(rt, 0)?;
-            return Ok(n);
-        }
-        Name::Geometry => call::geometry(rt, controller, table, content)?,
-        Name::Sector => call::sector(rt, controller, table, content, spare)?,
-        Name::Disk => call::disk(rt, controller, table, content)?,
-        Name::Pause => call::pause(
-            rt,
-            number,
-            line::rest(text),
-            lent,
-            controller,
-            transfer,
-            spare,
-        )?,
-        Name::Resume => call::resume(
-            rt,
-            number,
-            line::rest(text),
-            lent,
-            controller,
-            transfer,
-            spare,
-        )?,
-        Name::Home => call::home(
-            rt,
-            number,
-            line::rest(text),
-            controller,
-            table,
-            content,
-            spare,
-        )?,
+    line: Line<'_>,
+    call: Call,
+    bench: &mut Bench,
+) -> io::Result<()> {
+    match call.name {
+        Name::Fresh => bench.fresh(rt),
+        Name::Load => bench.load(rt, line),
+        Name::Out => bench.remove(rt),
+        Name::Machine => bench.machine(rt, call.n),
+        Name::Motor => bench.motor(rt, call.n),
+        Name::Status => bench.status(rt, call.n),
+        Name::Write => bench.write(rt, call.n),
+        Name::Read => bench.read(rt, call.n),
+        Name::Transfer => bench.lend(rt, call.n),
+        Name::Geometry => bench.geometry(rt),
+        Name::Sector => bench.sector(rt),
+        Name::Disk => bench.disk(rt),
+        Name::Pause => bench.pause(rt, line),
+        Name::Resume => bench.resume(rt, line),
+        Name::Home => bench.home(rt, line),
     }
-    Ok(lent)
 }
 
-// Runs a line, and answers how much of the transfer buffer is lent from then on.
-fn run_line<R: Print + Files>(
-    rt: &R,
-    number: u64,
-    text: &[u8],
-    lent: usize,
-    controller: &mut Controller,
-    table: &mut Table,
-    content: &mut Content,
-    transfer: &mut Transfer,
-    spare: &mut Spare,
-) -> io::Result<usize> {
-    if LONGEST < text.len() {
-        message::too_long(rt, number)?;
-        return Ok(lent);
+// Runs a line.
+fn run_line<R: Print + Files + Alloc>(rt: &R, line: Line<'_>, bench: &mut Bench) -> io::Result<()> {
+    if LONGEST < line.text.len() {
+        return message::too_long(rt, line.number);
     }
-    match parse(text, spare) {
-        Parsed::Nothing => Ok(lent),
-        Parsed::Wrong(name, fault) => {
-            message::wrong(rt, number, text, name, fault)?;
-            Ok(lent)
-        }
-        Parsed::Call(name, n) => obey(
-            rt, name, n, number, text, lent, controller, table, content, transfer, spare,
-        ),
+    match parse(line, &mut bench.spare) {
+        Ok(Some(call)) => obey(rt, line, call, bench),
+        Ok(None) => Ok(()),
+        Err(wrong) => message::wrong(rt, line, wrong),
     }
 }
 
 // Runs every line.
-fn run<R: Input + Print + Files>(
+fn run<R: Print + Files + Alloc>(
     rt: &R,
-    controller: &mut Controller,
-    table: &mut Table,
-    content: &mut Content,
-    transfer: &mut Transfer,
-    spare: &mut Spare,
+    input: &mut impl BufRead,
+    bench: &mut Bench,
 ) -> io::Result<()> {
-    let mut piece = [0; 4096];
-    let mut line = [0; 4097];
-    let mut reader = rt.reader();
-    let mut input = input::start();
-    let mut lent = transfer.len();
-    let mut number: u64 = 0;
-    while number < u64::MAX {
-        input = take_line(&mut reader, input, &mut piece, &mut line)?;
-        if input.over {
+    let mut space = [0; 4097];
+    for number in 1..=u64::MAX {
+        let Some(text) = take_line(input, &mut space)? else {
             return Ok(());
-        }
-        number += 1;
-        let text = input::taken(input, &line);
-        lent = run_line(
-            rt, number, text, lent, controller, table, content, transfer, spare,
-        )?;
+        };
+        run_line(rt, Line { number, text }, bench)?;
     }
     Ok(())
 }
 
 fn main(rt: HostRuntime) -> io::Result<()> {
-    let mut controller = [0; layout::LENGTH];
-    let mut table = [0; store::TABLE];
-    let mut content = [0; fields::DATA];
-    let mut transfer = [0; fields::TRANSFER];
-    let mut spare = [0; 2097152];
-    host::floppy_new(&mut controller);
-    run(
-        &rt,
-        &mut controller,
-        &mut table,
-        &mut content,
-        &mut transfer,
-        &mut spare,
-    )
+    let mut input = BufReader::new(rt.alloc(), rt.stdin())?;
+    let mut bench = Bench {
+        controller: [0; layout::LENGTH],
+        table: [0; store::TABLE],
+        content: [0; fields::DATA],
+        transfer: [0; fields::TRANSFER],
+        lent: fields::TRANSFER,
+        spare: [0; 2097152],
+    };
+    host::floppy_new(&mut bench.controller);
+    run(&rt, &mut input, &mut bench)
 }

@@ -1,6 +1,6 @@
 // What a line of a script asks for. No call is made here, so a line that is not understood changes nothing.
 use crate::line;
-use crate::line::Value;
+use crate::line::{Line, Words};
 
 // The first word of a line.
 #[derive(Clone, Copy)]
@@ -20,226 +20,151 @@ pub enum Name {
     Pause,
     Resume,
     Home,
-    Unknown,
 }
 
-// What is wrong with a line. Words are counted from 0.
+// What is wrong with the words behind a name. They are counted from 0.
 #[derive(Clone, Copy)]
 pub enum Fault {
-    Unknown,
     Few,
     Many,
     Unfit(usize),
 }
 
-// A call comes with one number: how often, how many bytes it names, or what it sets.
+// What is wrong with a line.
 #[derive(Clone, Copy)]
-pub enum Parsed {
-    Nothing,
-    Call(Name, usize),
-    Wrong(Name, Fault),
+pub enum Wrong {
+    Unknown,
+    Call(Name, Fault),
 }
 
-// '#', which begins a comment.
-const HASH: usize = 35;
+// A call comes with one number: how often, how many bytes it names, or what it sets.
+#[derive(Clone, Copy)]
+pub struct Call {
+    pub name: Name,
+    pub n: usize,
+}
 
 // Bytes of one line: those that it names, those that it reads, or those of its file, which may be no longer.
 pub type Spare = [u8; 2097152];
 
-fn name_of(word: &[u8]) -> Name {
-    if buffer::same(word, b"fresh") {
-        return Name::Fresh;
+fn name_of(word: &[u8]) -> Option<Name> {
+    match word {
+        b"fresh" => Some(Name::Fresh),
+        b"load" => Some(Name::Load),
+        b"out" => Some(Name::Out),
+        b"machine" => Some(Name::Machine),
+        b"motor" => Some(Name::Motor),
+        b"status" => Some(Name::Status),
+        b"write" => Some(Name::Write),
+        b"read" => Some(Name::Read),
+        b"transfer" => Some(Name::Transfer),
+        b"geometry" => Some(Name::Geometry),
+        b"sector" => Some(Name::Sector),
+        b"disk" => Some(Name::Disk),
+        b"pause" => Some(Name::Pause),
+        b"resume" => Some(Name::Resume),
+        b"home" => Some(Name::Home),
+        _ => None,
     }
-    if buffer::same(word, b"load") {
-        return Name::Load;
-    }
-    if buffer::same(word, b"out") {
-        return Name::Out;
-    }
-    if buffer::same(word, b"motor") {
-        return Name::Motor;
-    }
-    if buffer::same(word, b"status") {
-        return Name::Status;
-    }
-    if buffer::same(word, b"write") {
-        return Name::Write;
-    }
-    if buffer::same(word, b"read") {
-        return Name::Read;
-    }
-    if buffer::same(word, b"transfer") {
-        return Name::Transfer;
-    }
-    name_of_other(word)
 }
 
-fn name_of_other(word: &[u8]) -> Name {
-    if buffer::same(word, b"machine") {
-        return Name::Machine;
-    }
-    if buffer::same(word, b"geometry") {
-        return Name::Geometry;
-    }
-    if buffer::same(word, b"sector") {
-        return Name::Sector;
-    }
-    if buffer::same(word, b"disk") {
-        return Name::Disk;
-    }
-    if buffer::same(word, b"pause") {
-        return Name::Pause;
-    }
-    if buffer::same(word, b"resume") {
-        return Name::Resume;
-    }
-    if buffer::same(word, b"home") {
-        return Name::Home;
-    }
-    Name::Unknown
-}
-
-// How many words a line of this call has at least.
-fn fewest(name: Name) -> usize {
+// How many words stand behind this name at least, and at most.
+fn operand_counts(name: Name) -> (usize, usize) {
     match name {
-        Name::Load => 2,
-        Name::Machine => 2,
-        Name::Motor => 2,
-        Name::Write => 2,
-        Name::Read => 2,
-        Name::Transfer => 2,
-        Name::Sector => 7,
-        Name::Pause => 2,
-        Name::Resume => 2,
-        Name::Home => 2,
-        _ => 1,
+        Name::Fresh | Name::Out | Name::Geometry | Name::Disk => (0, 0),
+        Name::Load | Name::Write | Name::Pause | Name::Resume | Name::Home => (1, usize::MAX),
+        Name::Machine | Name::Motor | Name::Read | Name::Transfer => (1, 1),
+        Name::Status => (0, 1),
+        Name::Sector => (6, 6),
     }
 }
 
-// How many it has at most.
-fn most(name: Name) -> usize {
-    match name {
-        Name::Load => usize::MAX,
-        Name::Write => usize::MAX,
-        Name::Pause => usize::MAX,
-        Name::Resume => usize::MAX,
-        Name::Home => usize::MAX,
-        Name::Unknown => usize::MAX,
-        Name::Machine => 2,
-        Name::Motor => 2,
-        Name::Status => 2,
-        Name::Read => 2,
-        Name::Transfer => 2,
-        Name::Sector => 7,
-        _ => 1,
+fn switch(word: &[u8]) -> Option<usize> {
+    match word {
+        b"off" => Some(0),
+        b"on" => Some(1),
+        _ => None,
     }
-}
-
-fn switch(name: Name, word: &[u8]) -> Parsed {
-    if buffer::same(word, b"on") {
-        return Parsed::Call(name, 1);
-    }
-    if buffer::same(word, b"off") {
-        return Parsed::Call(name, 0);
-    }
-    Parsed::Wrong(name, Fault::Unfit(1))
 }
 
 // Which machine, as the setting that a controller is made with.
-fn machine(name: Name, word: &[u8]) -> Parsed {
-    if buffer::same(word, b"rust") {
-        return Parsed::Call(name, 0);
+fn machine(word: &[u8]) -> Option<usize> {
+    match word {
+        b"rust" => Some(0),
+        b"datasheet" => Some(1),
+        _ => None,
     }
-    if buffer::same(word, b"datasheet") {
-        return Parsed::Call(name, 1);
-    }
-    Parsed::Wrong(name, Fault::Unfit(1))
 }
 
 // One number, no less than the least.
-fn number(name: Name, word: &[u8], least: usize) -> Parsed {
-    match line::number(word) {
-        Value::Other => Parsed::Wrong(name, Fault::Unfit(1)),
-        Value::Number(n) => {
-            if n < least {
-                return Parsed::Wrong(name, Fault::Unfit(1));
-            }
-            Parsed::Call(name, n)
-        }
-    }
+fn number(word: &[u8], least: usize) -> Option<usize> {
+    line::number(word).filter(|n| least <= *n)
 }
 
 // A byte, written in hex or as a decimal number.
-fn byte(word: &[u8], in_hex: bool) -> Value {
+fn byte(word: &[u8], in_hex: bool) -> Option<u8> {
     if in_hex {
         return line::byte(word);
     }
-    match line::number(word) {
-        Value::Other => Value::Other,
-        Value::Number(n) => {
-            if 255 < n {
-                return Value::Other;
-            }
-            Value::Number(n)
-        }
-    }
+    u8::try_from(line::number(word)?).ok()
 }
 
-pub(crate) fn put_at(bytes: &mut [u8], at: usize, b: u8) {
-    if at < bytes.len() {
-        bytes[at] = b;
+// Lays out the bytes that are named by these words, and answers how many they are.
+fn list(operands: &[u8], in_hex: bool, spare: &mut Spare) -> Result<usize, Fault> {
+    let mut count = 0;
+    for (k, word) in Words(operands).enumerate() {
+        let Some(b) = byte(word, in_hex) else {
+            return Err(Fault::Unfit(k));
+        };
+        let Some(place) = spare.get_mut(k) else {
+            return Ok(count);
+        };
+        *place = b;
+        count = k + 1;
     }
+    Ok(count)
 }
 
-// Lays out the bytes that are named by the words behind the first.
-fn list(name: Name, text: &[u8], in_hex: bool, spare: &mut Spare) -> Parsed {
-    let words = line::count(text);
-    let mut span = line::next(text, 0);
-    let mut k: usize = 1;
-    while k < words {
-        span = line::next(text, span.to);
-        match byte(line::text_of(text, span), in_hex) {
-            Value::Other => return Parsed::Wrong(name, Fault::Unfit(k)),
-            Value::Number(n) => put_at(spare, k - 1, (n % 256) as u8),
-        }
-        k += 1;
-    }
-    Parsed::Call(name, k - 1)
-}
-
-// The call of a line whose words are neither too few nor too many.
-fn operands(name: Name, text: &[u8], spare: &mut Spare) -> Parsed {
+// The number of a call whose words are neither too few nor too many.
+fn number_of(name: Name, operands: &[u8], spare: &mut Spare) -> Result<usize, Fault> {
+    let first = line::word(operands, 0);
     match name {
-        Name::Unknown => Parsed::Wrong(name, Fault::Unknown),
-        Name::Machine => machine(name, line::word(text, 1)),
-        Name::Motor => switch(name, line::word(text, 1)),
-        Name::Status => {
-            if line::count(text) == 1 {
-                return Parsed::Call(name, 1);
-            }
-            number(name, line::word(text, 1), 1)
-        }
-        Name::Read => number(name, line::word(text, 1), 1),
-        Name::Transfer => number(name, line::word(text, 1), 0),
-        Name::Write => list(name, text, true, spare),
-        Name::Sector => list(name, text, false, spare),
-        _ => Parsed::Call(name, 0),
+        Name::Machine => machine(first).ok_or(Fault::Unfit(0)),
+        Name::Motor => switch(first).ok_or(Fault::Unfit(0)),
+        Name::Status if first.is_empty() => Ok(1),
+        Name::Status | Name::Read => number(first, 1).ok_or(Fault::Unfit(0)),
+        Name::Transfer => number(first, 0).ok_or(Fault::Unfit(0)),
+        Name::Write => list(operands, true, spare),
+        Name::Sector => list(operands, false, spare),
+        _ => Ok(0),
     }
+}
+
+// The call with this name.
+fn call_of(name: Name, operands: &[u8], spare: &mut Spare) -> Result<Call, Fault> {
+    let count = Words(operands).count();
+    let (least, most) = operand_counts(name);
+    if count < least {
+        return Err(Fault::Few);
+    }
+    if most < count {
+        return Err(Fault::Many);
+    }
+    let n = number_of(name, operands, spare)?;
+    Ok(Call { name, n })
 }
 
 // Reads a line; nothing where it is blank or a comment.
-pub(crate) fn parse(text: &[u8], spare: &mut Spare) -> Parsed {
-    let words = line::count(text);
-    let first = line::word(text, 0);
-    if words == 0 || fields::byte(first, 0) == HASH {
-        return Parsed::Nothing;
+pub(crate) fn parse(line: Line<'_>, spare: &mut Spare) -> Result<Option<Call>, Wrong> {
+    let Some(first) = Words(line.text).next() else {
+        return Ok(None);
+    };
+    if first.starts_with(b"#") {
+        return Ok(None);
     }
-    let name = name_of(first);
-    if words < fewest(name) {
-        return Parsed::Wrong(name, Fault::Few);
+    let name = name_of(first).ok_or(Wrong::Unknown)?;
+    match call_of(name, line.operands(), spare) {
+        Ok(call) => Ok(Some(call)),
+        Err(fault) => Err(Wrong::Call(name, fault)),
     }
-    if most(name) < words {
-        return Parsed::Wrong(name, Fault::Many);
-    }
-    operands(name, text, spare)
 }

@@ -6,7 +6,8 @@
 
 ghost use Rattle.std.specs.Prelude.{◌+◌, ◌*◌, ◌<◌, ◌≤◌};
 
-use fields::SectorId;
+use fields::{Refusal, SectorId};
+use replay::{Amount, Fault};
 use std::io;
 use std::io::{BufReader, BufWriter, Read, Write};
 
@@ -16,38 +17,46 @@ const RECORDS: u32 = 65536;
 // No disk goes home as more bytes: 204 headers and the disk block, and as many data as there can be, padded.
 const HOME: usize = 1153024;
 
-fn show_geometry<W: Write>(out: &mut W, table: &[u8], bytes: &[u8]) -> io::Result<()> {
-    match store::geometry(table, bytes) {
-        store::Geometry::Refused(why) => replay::refused(out, why),
-        store::Geometry::Of(c0, c1) => {
-            replay::put(out, b"geometry")?;
-            replay::field(out, c0 as u64)?;
-            replay::field(out, c1 as u64)?;
-            replay::put(out, b"\n")
-        }
+// A disk, as it lies in its store.
+#[derive(Clone, Copy)]
+struct Disk<'a> {
+    table: &'a [u8],
+    bytes: &'a [u8],
+}
+
+// Where a record is taken to, and the store that its image is loaded into.
+#[derive(Drop)]
+struct Bench {
+    name: [u8; 256],
+    image: [u8; 262144],
+    table: [u8; store::TABLE],
+    bytes: [u8; fields::DATA],
+}
+
+fn show_geometry<W: Write>(out: &mut W, disk: Disk<'_>) -> io::Result<()> {
+    match store::geometry(disk.table, disk.bytes) {
+        Err(why) => replay::refused(out, why),
+        Ok(found) => writeln!(out, "geometry {} {}", found.c0, found.c1),
     }
 }
 
 // What is found at an address, and which sector of its track it is.
 fn ask<W: Write>(
     out: &mut W,
-    table: &[u8],
-    bytes: &[u8],
+    disk: Disk<'_>,
     side: u8,
     cylinder: u8,
     id: SectorId,
 ) -> io::Result<()> {
-    replay::put(out, b"at")?;
-    replay::field(out, side as u64)?;
-    replay::field(out, cylinder as u64)?;
+    write!(out, "at {side} {cylinder}")?;
     replay::show_id(out, id)?;
-    match store::has_sector(table, bytes, side, cylinder, id) {
-        store::Has::Refused(why) => replay::refused(out, why),
-        store::Has::No => replay::put(out, b" none\n"),
-        store::Has::Yes(sector) => {
-            replay::field(out, sector.place as u64)?;
-            replay::field(out, sector.count as u64)?;
-            replay::show_content(out, store::lookup(table, bytes, side, cylinder, id))
+    match store::has_sector(disk.table, disk.bytes, side, cylinder, id) {
+        Err(why) => replay::refused(out, why),
+        Ok(None) => writeln!(out, " none"),
+        Ok(Some(sector)) => {
+            write!(out, " {} {}", sector.place, sector.count)?;
+            let content = store::lookup(disk.table, disk.bytes, side, cylinder, id);
+            replay::show_content(out, content)
         }
     }
 }
@@ -55,8 +64,7 @@ fn ask<W: Write>(
 // Asks for each of `count` sectors by its own address, and for the first with another r.
 fn ask_sectors<W: Write>(
     out: &mut W,
-    table: &[u8],
-    bytes: &[u8],
+    disk: Disk<'_>,
     start: usize,
     count: usize,
     side: u8,
@@ -64,168 +72,121 @@ fn ask_sectors<W: Write>(
 ) -> io::Result<()>
     requires { (start < 20000) × (count < 256) }
 {
-    let mut k: usize = 0;
-    while k < count {
-        let row = tracks::row_at(table, start + 8 * k);
-        ask(out, table, bytes, side, cylinder, row.id)?;
-        k += 1;
+    for k in 0..count {
+        let id = tracks::id_at(disk.table, start + 8 * k);
+        ask(out, disk, side, cylinder, id)?;
     }
     if 0 < count {
-        let row = tracks::row_at(table, start);
-        let id = row.id;
-        let r = ((id.r as usize) + 128) % 256;
-        let other = SectorId {
-            c: id.c,
-            h: id.h,
-            r: r as u8,
-            n: id.n,
-        };
-        ask(out, table, bytes, side, cylinder, other)?;
+        let id = tracks::id_at(disk.table, start);
+        let r = id.r.wrapping_add(128);
+        ask(out, disk, side, cylinder, SectorId { r, ..id })?;
     }
     Ok(())
 }
 
-fn ask_tracks<W: Write>(out: &mut W, table: &[u8], bytes: &[u8]) -> io::Result<()> {
-    let mut left = fields::byte(table, 0);
+fn ask_tracks<W: Write>(out: &mut W, disk: Disk<'_>) -> io::Result<()> {
+    let table = disk.table;
     let mut at: usize = 1;
-    while 0 < left {
+    for _ in 0..fields::byte(table, 0) {
         if store::TABLE <= at {
             return Ok(());
         }
-        let cylinder = fields::byte(table, at);
-        let side = fields::byte(table, at + 1);
+        let cylinder = fields::byte(table, at) as u8;
+        let side = fields::byte(table, at + 1) as u8;
         let count = fields::byte(table, at + 5);
-        ask_sectors(out, table, bytes, at + 6, count, side as u8, cylinder as u8)?;
+        ask_sectors(out, disk, at + 6, count, side, cylinder)?;
         at += 6 + 8 * count;
-        left -= 1;
     }
     Ok(())
 }
 
-// Three addresses that hardly any disk has.
-fn ask_elsewhere<W: Write>(out: &mut W, table: &[u8], bytes: &[u8]) -> io::Result<()> {
-    let none = SectorId {
-        c: 0,
-        h: 0,
-        r: 0,
-        n: 0,
-    };
-    let first = SectorId {
-        c: 0,
-        h: 0,
-        r: 1,
-        n: 2,
-    };
-    let last = SectorId {
-        c: 255,
-        h: 255,
-        r: 255,
-        n: 255,
-    };
-    ask(out, table, bytes, 0, 0, none)?;
-    ask(out, table, bytes, 1, 0, first)?;
-    ask(out, table, bytes, 255, 255, last)
+fn id(c: u8, h: u8, r: u8, n: u8) -> SectorId {
+    SectorId { c, h, r, n }
 }
 
-// The image that the disk goes home as, in a buffer that it fits.
-fn show_home_in<W: Write>(
-    out: &mut W,
-    table: &[u8],
-    bytes: &[u8],
-    image: &mut [u8; HOME],
-) -> io::Result<()> {
-    match home::write_image(table, bytes, image) {
-        store::Extent::Refused(why) => {
-            replay::put(out, b"home ")?;
+// Three addresses that hardly any disk has.
+fn ask_elsewhere<W: Write>(out: &mut W, disk: Disk<'_>) -> io::Result<()> {
+    ask(out, disk, 0, 0, id(0, 0, 0, 0))?;
+    ask(out, disk, 1, 0, id(0, 0, 1, 2))?;
+    ask(out, disk, 255, 255, id(255, 255, 255, 255))
+}
+
+// The image that the disk goes home as, in a buffer that it fits. The buffer is its caller's: with it here, the check of this function runs out of
+// room.
+fn show_home_in<W: Write>(out: &mut W, disk: Disk<'_>, image: &mut [u8; HOME]) -> io::Result<()> {
+    write!(out, "home")?;
+    match home::write_image(disk.table, disk.bytes, image) {
+        Err(why) => {
+            write!(out, " ")?;
             replay::refused(out, why)
         }
-        store::Extent::Of(length) => {
-            replay::put(out, b"home")?;
-            replay::show_content(out, buffer::part(image, 0, length as usize))
-        }
+        Ok(length) => replay::show_content(out, buffer::part(image, 0, length as usize)),
     }
 }
 
-fn show_home<W: Write>(out: &mut W, table: &[u8], bytes: &[u8]) -> io::Result<()> {
+fn show_home<W: Write>(out: &mut W, disk: Disk<'_>) -> io::Result<()> {
     let mut image = [0; HOME];
-    show_home_in(out, table, bytes, &mut image)
+    show_home_in(out, disk, &mut image)
 }
 
-fn show_store<W: Write>(out: &mut W, table: &[u8], bytes: &[u8]) -> io::Result<()> {
-    replay::show_tracks(out, table, bytes)?;
-    show_geometry(out, table, bytes)?;
-    ask_tracks(out, table, bytes)?;
-    ask_elsewhere(out, table, bytes)?;
-    show_home(out, table, bytes)
+// What a store holds, unless the disk was refused.
+fn show_store<W: Write>(
+    out: &mut W,
+    loaded: Result<(), Refusal>,
+    disk: Disk<'_>,
+) -> io::Result<()> {
+    if let Err(why) = loaded {
+        return replay::refused(out, why);
+    }
+    replay::show_tracks(out, disk.table, disk.bytes)?;
+    show_geometry(out, disk)?;
+    ask_tracks(out, disk)?;
+    ask_elsewhere(out, disk)?;
+    show_home(out, disk)
 }
 
 // Reads an image through and loads it.
 fn show<W: Write>(out: &mut W, image: &[u8], table: &mut [u8], bytes: &mut [u8]) -> io::Result<()> {
-    match image::survey(image) {
-        image::Surveyed::Refused(why) => replay::refused(out, why),
-        image::Surveyed::Good(totals, _) => {
-            replay::show_totals(out, totals.tracks, totals.sectors, totals.bytes)?;
-            match loading::new(image, table, bytes) {
-                store::Done::Refused(why) => replay::refused(out, why),
-                store::Done::Good => show_store(out, table, bytes),
-            }
-        }
-    }
+    let totals = match image::survey(image) {
+        Ok((totals, _)) => totals,
+        Err(why) => return replay::refused(out, why),
+    };
+    let held = Amount {
+        tracks: totals.tracks,
+        sectors: totals.sectors,
+        bytes: totals.bytes,
+    };
+    replay::show_totals(out, held)?;
+    let loaded = loading::new(image, table, bytes);
+    show_store(out, loaded, Disk { table, bytes })
 }
 
 fn show_fresh<W: Write>(out: &mut W, table: &mut [u8], bytes: &mut [u8]) -> io::Result<()> {
-    replay::put(out, b"fresh\n")?;
-    match loading::new_formatted(table, bytes) {
-        store::Done::Refused(why) => replay::refused(out, why),
-        store::Done::Good => show_store(out, table, bytes),
-    }
-}
-
-fn broken(rt: &impl Eprint) -> io::Result<bool> {
-    eprintln!(rt; "vectors: the list ends inside a record")?;
-    Ok(false)
+    writeln!(out, "fresh")?;
+    let loaded = loading::new_formatted(table, bytes);
+    show_store(out, loaded, Disk { table, bytes })
 }
 
 // Reads one record and shows its image; no where the list ends.
-fn replay<R: Read, W: Write>(
-    rt: &impl Eprint,
-    input: &mut R,
-    out: &mut W,
-    name: &mut [u8],
-    image: &mut [u8],
-    table: &mut [u8],
-    bytes: &mut [u8],
-) -> io::Result<bool> {
-    match replay::take_record(input, name, image)? {
-        replay::Record::End => Ok(false),
-        replay::Record::Broken => broken(rt),
-        replay::Record::Whole { letters, len } => {
-            replay::put(out, b"image ")?;
-            replay::put(out, buffer::part(name, 0, letters))?;
-            replay::put(out, b"\n")?;
-            show(out, buffer::part(image, 0, len), table, bytes)?;
-            Ok(true)
-        }
-    }
+fn replay<R: Read, W: Write>(input: &mut R, out: &mut W, bench: &mut Bench) -> Result<bool, Fault> {
+    let Some(record) = replay::take_record(input, &mut bench.name, &mut bench.image)? else {
+        return Ok(false);
+    };
+    replay::put(out, b"image ")?;
+    replay::put(out, buffer::part(&bench.name, 0, record.letters))?;
+    replay::put(out, b"\n")?;
+    let image = buffer::part(&bench.image, 0, record.len);
+    show(out, image, &mut bench.table, &mut bench.bytes)?;
+    Ok(true)
 }
 
 // Replays every record.
-fn run<R: Read, W: Write>(
-    rt: &impl Eprint,
-    input: &mut R,
-    out: &mut W,
-    name: &mut [u8; 256],
-    image: &mut [u8; 262144],
-    table: &mut [u8; store::TABLE],
-    bytes: &mut [u8; fields::DATA],
-) -> io::Result<()> {
-    show_fresh(out, table, bytes)?;
-    let mut left = RECORDS;
-    while 0 < left {
-        if !replay(rt, input, out, name, image, table, bytes)? {
+fn run<R: Read, W: Write>(input: &mut R, out: &mut W, bench: &mut Bench) -> Result<(), Fault> {
+    show_fresh(out, &mut bench.table, &mut bench.bytes)?;
+    for _ in 0..RECORDS {
+        if !replay(input, out, bench)? {
             return Ok(());
         }
-        left -= 1;
     }
     Ok(())
 }
@@ -233,12 +194,13 @@ fn run<R: Read, W: Write>(
 fn main(rt: HostRuntime) -> io::Result<()> {
     let mut input = BufReader::new(rt.alloc(), rt.stdin())?;
     let mut out = BufWriter::new(rt.alloc(), rt.stdout())?;
-    let mut name = [0; 256];
-    let mut image = [0; 262144];
-    let mut table = [0; store::TABLE];
-    let mut bytes = [0; fields::DATA];
-    run(
-        &rt, &mut input, &mut out, &mut name, &mut image, &mut table, &mut bytes,
-    )?;
+    let mut bench = Bench {
+        name: [0; 256],
+        image: [0; 262144],
+        table: [0; store::TABLE],
+        bytes: [0; fields::DATA],
+    };
+    let replayed = run(&mut input, &mut out, &mut bench);
+    replay::ended(&rt, replayed, "vectors: the list ends inside a record")?;
     out.flush()
 }

@@ -4,10 +4,6 @@ use Rattle.fields.specs.Bytes.{read_number}
 use Rattle.replay.specs.Answers.{number_in}
 use Rattle.replay.proofs.number.Goals as goal
 
-pub returns-in-Refused : goal.returns-in-Refused
+pub returns : goal.returns
 unfolding number_in read_number
-returns-in-Refused c = grind (arith, common_steps)
-
-pub returns-in-Number : goal.returns-in-Number
-unfolding number_in read_number
-returns-in-Number c = grind (arith, common_steps)
+returns c = grind (arith, common_steps)

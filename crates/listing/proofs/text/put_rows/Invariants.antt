@@ -1,10 +1,7 @@
-use Prim.Native.Nat.{◌-◌, ◌≤◌}
+use Prim.Native.Nat.{◌-◌}
 use Rattle.listing.specs.Lines.{row_lines}
 use Rattle.listing.proofs.Lines.{Left}
 use Rattle.listing.proofs.text.put_rows.Given as goal
 
 abbrev pub invariant-loop-k : goal.invariant-loop-k
-invariant-loop-k l = (l.k ≤ l.count) × Left l.initial.out l.start (row_lines l.kind l.block 0 l.count) l.out l.at (row_lines l.kind l.block l.k (l.count - l.k))
-
-abbrev pub decreases-loop-k : goal.decreases-loop-k
-decreases-loop-k l = l.count - l.k
+invariant-loop-k l = Left l.initial.out l.start (row_lines l.kind l.block 0 l.count) l.out l.at (row_lines l.kind l.block l.k (l.count - l.k))

@@ -1,4 +1,5 @@
+use Rattle.std.proofs.Common.{◌≤◌}
 use Rattle.session.proofs.input.take_line.Given as goal
 
-abbrev pub decreases-loop-left : goal.decreases-loop-left
-decreases-loop-left g l = l.left
+abbrev pub invariant-loop-b : goal.invariant-loop-b
+invariant-loop-b g l = l.len ≤ 4097
