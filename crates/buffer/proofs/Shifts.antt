@@ -16,6 +16,10 @@ paste-over d from to end h k =
     append_assoc (take to d) (take (end - from) (drop from d)) _
     ∙ (λ i. take to d ++ (slice-drop d from end i ++ drop (to + sym (length-slice from end d k) i) d))
 
+-- a part that stays where it is
+pub stayed-over : (d : List ℕ) (from to end : ℕ) → to ≡ from → from ≤ end → end ≤ length d → d ≡ over d to (slice from end d)
+stayed-over d from to end e h k = sym (over-same d from end h k) ∙ ap (λ (n : ℕ). over d n (slice from end d)) (sym e)
+
 -- a part that was filled
 pub filled-over : (d x : List ℕ) (at n k v m : ℕ) → x ≡ replicate m v → m ≡ length (take k (drop at d)) → k ≡ n → at + n ≤ length d
     → put_mid at k d x ≡ over d at (replicate n v)

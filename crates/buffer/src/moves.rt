@@ -6,11 +6,14 @@ ghost use Rattle.buffer.specs.Over.{over};
 // How many bytes `exchange` keeps aside at a time.
 const CHUNK: usize = 8192;
 
-// Moves the bytes of [from, end) to `to`, up or down.
+// Moves the bytes of [from, end) to `to`, up or down; where they stand there, no byte is touched.
 pub fn shift(buf: &mut [u8], from: usize, to: usize, end: usize)
     requires { (from ≤ end) × ((end ≤ length buf.old) × (to + (end - from) ≤ length buf.old)) }
     ensures { buf.new ≡ over buf.old to (slice from end buf.old) }
 {
+    if to == from {
+        return;
+    }
     buf.copy_within(from..end, to);
 }
 
