@@ -10,9 +10,6 @@ use replay::Fault;
 use std::io;
 use std::io::{BufReader, BufWriter, Read, Write};
 
-// More scripts than any list has.
-const SCRIPTS: u32 = 65536;
-
 // A disk with more sectors is not printed whole.
 const MOST_PRINTED: usize = 600;
 
@@ -232,16 +229,6 @@ impl Bench {
     }
 }
 
-// Replays every script.
-fn run<R: Read, W: Write>(input: &mut R, out: &mut W, bench: &mut Bench) -> Result<(), Fault> {
-    for _ in 0..SCRIPTS {
-        if !bench.replay(input, out)? {
-            return Ok(());
-        }
-    }
-    Ok(())
-}
-
 fn main(rt: HostRuntime) -> io::Result<()> {
     let mut input = BufReader::new(rt.alloc(), rt.stdin())?;
     let mut out = BufWriter::new(rt.alloc(), rt.stdout())?;
@@ -252,7 +239,7 @@ fn main(rt: HostRuntime) -> io::Result<()> {
         bytes: [0; fields::DATA],
         work: [0; 131072],
     };
-    let replayed = run(&mut input, &mut out, &mut bench);
+    let replayed = replay::run(|| bench.replay(&mut input, &mut out));
     replay::ended(&rt, replayed, "changes: the list ends inside a script")?;
     out.flush()
 }

@@ -47,6 +47,13 @@ impl From<u8> for Kind {
     }
 }
 
+// The ports that are read.
+#[derive(Clone, Copy)]
+enum Port {
+    Status,
+    Data,
+}
+
 // The two disks.
 #[derive(Clone, Copy)]
 pub enum Disk {
@@ -87,24 +94,53 @@ pub(crate) fn start_of(disk: Option<Disk>, each: usize) -> usize
     }
 }
 
-// The registers with another number: 1 and 2 place and fill of the reply, 3 the bytes of a command, 4 the lost count,
-// 5 and 6 place and fill of the data, 7 and 8 fill and c1 of a write.
-fn renumbered(r: Regs, which: usize, value: usize) -> Regs {
+// The numbers of a controller that a session changes: place and fill of the reply, the bytes of a command, the lost count,
+// place and fill of the data, fill and c1 of a write.
+#[derive(Clone, Copy)]
+enum Changed {
+    ReplyPlace,
+    ReplyFill,
+    Count,
+    Lost,
+    DataPlace,
+    DataFill,
+    Taken,
+    C1,
+}
+
+// 8 and every number that stands for none stands for the last.
+impl From<usize> for Changed {
+    fn from(number: usize) -> Changed {
+        match number {
+            1 => Changed::ReplyPlace,
+            2 => Changed::ReplyFill,
+            3 => Changed::Count,
+            4 => Changed::Lost,
+            5 => Changed::DataPlace,
+            6 => Changed::DataFill,
+            7 => Changed::Taken,
+            _ => Changed::C1,
+        }
+    }
+}
+
+// The registers with another number.
+fn renumbered(r: Regs, changed: Changed, value: usize) -> Regs {
     let small = (value % 256) as u8;
     let large = (value % 1048576) as u32;
     let mut w = r.write;
-    match which {
-        1 => Regs { place: small, ..r },
-        2 => Regs { fill: small, ..r },
-        3 => Regs { count: small, ..r },
-        4 => Regs { lost: small, ..r },
-        5 => Regs { from: large, ..r },
-        6 => Regs { until: large, ..r },
-        7 => {
+    match changed {
+        Changed::ReplyPlace => Regs { place: small, ..r },
+        Changed::ReplyFill => Regs { fill: small, ..r },
+        Changed::Count => Regs { count: small, ..r },
+        Changed::Lost => Regs { lost: small, ..r },
+        Changed::DataPlace => Regs { from: large, ..r },
+        Changed::DataFill => Regs { until: large, ..r },
+        Changed::Taken => {
             w.taken = (value % 65536) as u16;
             Regs { write: w, ..r }
         }
-        _ => {
+        Changed::C1 => {
             w.c1 = small;
             Regs { write: w, ..r }
         }
@@ -118,7 +154,7 @@ impl Bench {
         shown.answer
     }
 
-    // Puts disk A or B in, or takes out what is in.
+    // Puts disk A or B in, or takes out what is in. The one place where the list's number says which: past 2 it is told as B, and is A.
     fn put<W: Write>(&mut self, out: &mut W, number: usize) -> io::Result<()> {
         let (name, disk) = match number {
             0 => ("none", None),
@@ -142,17 +178,17 @@ impl Bench {
         show::end(out, done)
     }
 
-    // A read of the data port or of the status, over a lent controller or by value.
-    fn read_once(&mut self, dataport: bool) -> Result<u8, Refusal> {
+    // A read of a port, over a lent controller or by value.
+    fn read_once(&mut self, port: Port) -> Result<u8, Refusal> {
         let room = buffer::part(&self.transfer, 0, self.room);
-        match (dataport, self.lent) {
-            (true, true) => self.floppy.read_cmd(room),
-            (false, true) => self.floppy.read_status(),
-            (true, false) => {
+        match (port, self.lent) {
+            (Port::Data, true) => self.floppy.read_cmd(room),
+            (Port::Status, true) => self.floppy.read_status(),
+            (Port::Data, false) => {
                 let shown = self.floppy.read_step(room);
                 self.keep(shown)
             }
-            (false, false) => {
+            (Port::Status, false) => {
                 let shown = self.floppy.status_step();
                 self.keep(shown)
             }
@@ -160,17 +196,17 @@ impl Bench {
     }
 
     // Reads a port so many times, or until it is refused; what that gave is heard.
-    fn hear(&mut self, heard: &mut Heard, dataport: bool, times: usize) -> Result<(), Refusal> {
+    fn hear(&mut self, heard: &mut Heard, port: Port, times: usize) -> Result<(), Refusal> {
         for _ in 0..times {
-            heard.add(self.read_once(dataport)?);
+            heard.add(self.read_once(port)?);
         }
         Ok(())
     }
 
     // Reads a port, and shows what that gave.
-    fn read<W: Write>(&mut self, out: &mut W, dataport: bool, times: usize) -> io::Result<()> {
+    fn read<W: Write>(&mut self, out: &mut W, port: Port, times: usize) -> io::Result<()> {
         let mut heard = Heard::nothing();
-        let done = self.hear(&mut heard, dataport, times);
+        let done = self.hear(&mut heard, port, times);
         heard.show(out)?;
         show::end(out, done)
     }
@@ -220,7 +256,7 @@ impl Bench {
         show::end(out, Err(stopped.why))
     }
 
-    // So much of a buffer is lent from now on: 1 the table, 2 the data, 3 the transfer buffer.
+    // So much of a buffer is lent from now on: 1 the table, 2 the data, 3 the transfer buffer, by the number of the list, which is printed as it came.
     fn lend<W: Write>(&mut self, out: &mut W, which: usize, len: usize) -> io::Result<()> {
         match which {
             1 => self.table = len,
@@ -243,7 +279,7 @@ impl Bench {
     fn set_number<W: Write>(&mut self, out: &mut W, which: usize, value: usize) -> io::Result<()> {
         let f = self.floppy;
         self.floppy = Floppy {
-            regs: renumbered(f.regs, which, value),
+            regs: renumbered(f.regs, Changed::from(which), value),
             ..f
         };
         writeln!(out, "number {which} {value}")
@@ -294,11 +330,11 @@ impl Bench {
             Kind::Motor => self.motor(out, number == 1),
             Kind::Status => {
                 write!(out, "status {number}")?;
-                self.read(out, false, number)
+                self.read(out, Port::Status, number)
             }
             Kind::Read => {
                 write!(out, "read {number}")?;
-                self.read(out, true, number)
+                self.read(out, Port::Data, number)
             }
             Kind::Send => self.send(out, number, text),
             Kind::Ask => show::ask(out, self.floppy),

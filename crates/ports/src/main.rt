@@ -18,9 +18,6 @@ use std::io;
 use std::io::{BufReader, BufWriter, Read, Write};
 use store::TABLE;
 
-// More sessions than any list has.
-const SESSIONS: u32 = 65536;
-
 // The buffers hold nothing but this byte when a session is replayed for the second time.
 const WIPED: u8 = 165;
 
@@ -131,21 +128,6 @@ fn replay<R: Read, W: Write>(
     Ok(bench.perform(out, true, session)?)
 }
 
-// Replays every session.
-fn run<R: Read, W: Write>(
-    input: &mut R,
-    out: &mut W,
-    list: &mut List,
-    bench: &mut Bench,
-) -> Result<(), Fault> {
-    for _ in 0..SESSIONS {
-        if !replay(input, out, list, bench)? {
-            return Ok(());
-        }
-    }
-    Ok(())
-}
-
 fn main(rt: HostRuntime) -> io::Result<()> {
     let mut input = BufReader::new(rt.alloc(), rt.stdin())?;
     let mut out = BufWriter::new(rt.alloc(), rt.stdout())?;
@@ -166,7 +148,7 @@ fn main(rt: HostRuntime) -> io::Result<()> {
         contents: [0; 2097152],
         transfer: [0; 131072],
     };
-    let replayed = run(&mut input, &mut out, &mut list, &mut bench);
+    let replayed = replay::run(|| replay(&mut input, &mut out, &mut list, &mut bench));
     replay::ended(&rt, replayed, "ports: the list ends inside a session")?;
     out.flush()
 }

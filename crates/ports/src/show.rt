@@ -2,27 +2,15 @@
 use fields::Refusal;
 use floppy::Floppy;
 use registers::Regs;
+use replay::Hex;
+use std::io;
 use std::io::Write;
-use std::{fmt, io};
 
 // More bytes are not printed one by one.
 pub const MOST_HEX: usize = 24;
 
 // A disk with more tracks or sectors is not printed whole.
 const MOST_PRINTED: usize = 40;
-
-// Bytes one by one, a space before each.
-#[derive(Clone, Copy)]
-struct Hex<'a>(&'a [u8]);
-
-impl fmt::Display for Hex<'_> {
-    fn fmt<W: fmt::Write>(&self, f: &mut fmt::Formatter<W>) -> fmt::Result {
-        for b in self.0 {
-            write!(f, " {b:02x}")?;
-        }
-        Ok(())
-    }
-}
 
 // What port reads gave: how many bytes, their check number, and the first of them.
 #[derive(Clone, Copy)]
@@ -61,7 +49,7 @@ fn hex_or_check<W: Write>(out: &mut W, count: usize, check: u32, first: &[u8]) -
     if MOST_HEX < count {
         return write!(out, " check {check}");
     }
-    write!(out, ":{}", Hex(buffer::part(first, 0, count)))
+    write!(out, ":{}", Hex::Lower(buffer::part(first, 0, count)))
 }
 
 pub(crate) fn bytes<W: Write>(out: &mut W, bytes: &[u8]) -> io::Result<()> {
@@ -111,7 +99,7 @@ fn pending<W: Write>(out: &mut W, f: Floppy) -> io::Result<()> {
     let t = w.target;
     let five = [w.c1, t.one, t.two, t.three, t.four];
     let check = replay::check_of(buffer::part(&f.held, 0, taken));
-    writeln!(out, " {work} {left}{} {check}", Hex(&five))
+    writeln!(out, " {work} {left}{} {check}", Hex::Lower(&five))
 }
 
 // What is unread of the reply, and of the data.
@@ -126,7 +114,7 @@ fn unread<W: Write>(out: &mut W, r: Regs, transfer: &[u8]) -> io::Result<()> {
         r.from as usize,
         r.until.saturating_sub(r.from) as usize,
     );
-    write!(out, " reply{} data {}", Hex(reply), data.len())?;
+    write!(out, " reply{} data {}", Hex::Lower(reply), data.len())?;
     write!(out, " {}", replay::check_of(data))
 }
 
@@ -135,7 +123,7 @@ fn numbers<W: Write>(out: &mut W, r: Regs) -> io::Result<()> {
     let seek = r.drive.seek as u8;
     let command = buffer::part(&r.command, 0, r.count as usize);
     write!(out, "boxes seek {seek} lost {} index {}", r.lost, r.index)?;
-    write!(out, " command{}", Hex(command))
+    write!(out, " command{}", Hex::Lower(command))
 }
 
 // What the ports do not show at once.

@@ -1,5 +1,5 @@
 -- What the functions that read a list, or sum a result up, answer.
-use Rattle.std.specs.Prelude.{ℕ, ◌+◌, ◌*◌, ◌%◌, ◌≤◌, ◌≡◌, List, [], ◌∷◌, Bool, true, cond, length, leb, Result, Ok, Err, Option, None, Some}
+use Rattle.std.specs.Prelude.{ℕ, zero, suc, ◌+◌, ◌*◌, ◌%◌, ◌≤◌, ◌≡◌, List, [], ◌∷◌, Bool, true, false, cond, length, leb, Result, Ok, Err, Option, None, Some}
 use Rattle.fields.specs.Bytes.{number_at}
 use Rattle.replay.specs.declared.Amount.{Amount}
 use Rattle.replay.specs.declared.Record.{Record}
@@ -37,3 +37,14 @@ ChunkFits (Some n) room = n ≤ room
 abbrev pub RecordFits : Option Record → ℕ → ℕ → Type 0
 RecordFits None name image = Unit {0}
 RecordFits (Some r) name image = (r.letters ≤ name) × (r.len ≤ image)
+
+-- what is done after a call: more where it answered yes, and else nothing, but its fault is handed on
+abbrev pub Next : {E : Type 0} → Result Bool E → Type 0 → Result (Unit {0}) E → Type 0
+Next (Ok true) more done = more
+Next (Ok false) more done = done ≡ Ok tt
+Next (Err why) more done = done ≡ Err why
+
+-- calls that are made one after another as long as they answer yes, but no more than so many, and what is answered then
+unfoldable pub Runs : {F E : Type 0} → (F → Result Bool E → F → Type 0) → ℕ → F → Result (Unit {0}) E → Type 0
+Runs call zero f done = done ≡ Ok tt
+Runs {F} {E} call (suc n) f done = (r : Result Bool E) × (g : F) × call f r g × Next r (Runs call n g done) done

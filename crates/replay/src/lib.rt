@@ -7,12 +7,15 @@ ghost use Rattle.fields.specs.Bytes.{byte_at};
 ghost use Rattle.fields.specs.Capacities.{most_data};
 ghost use Rattle.store.specs.Spots.{tally_of};
 ghost use Rattle.store.specs.Store.{table_length};
-ghost use Rattle.replay.specs.Answers.{check_from, check_with, held_in, number_in, Fits, ChunkFits, RecordFits};
+ghost use Rattle.replay.specs.Answers.{check_from, check_with, held_in, number_in, Fits, ChunkFits, RecordFits, Runs};
 
 use fields::{Refusal, SectorId};
-use std::io;
 use std::io::{ErrorKind, Read, Write};
+use std::{fmt, io};
 use tracks::Row;
+
+// More records than any list has.
+const RECORDS: u32 = 65536;
 
 // How much a disk holds.
 #[derive(Clone, Copy, Default)]
@@ -42,6 +45,21 @@ impl From<io::Error> for Fault {
     }
 }
 
+// Replays record after record, until one answers no.
+pub fn run<F: FnMut() -> Result<bool, Fault>>(mut replay: F) -> Result<(), Fault>
+    requires { F.IsAlwaysCallable replay }
+    ensures { Runs F.step 65536 replay result }
+{
+    for k in 0..RECORDS {
+        match replay() {
+            Ok(true) => {}
+            Ok(false) => return Ok(()),
+            Err(why) => return Err(why),
+        }
+    }
+    Ok(())
+}
+
 // How a replay ends: a list that is broken off is told of, and what was printed stands.
 pub fn ended(rt: &impl Eprint, replayed: Result<(), Fault>, broken: &str) -> io::Result<()>
     ensures { OnOk replayed (IsOk result) }
@@ -57,6 +75,31 @@ pub fn put<W: Write>(out: &mut W, text: &[u8]) -> io::Result<()>
     ensures { OnOk result (Appends (W.contents out.old) (W.contents out.new) text.now) }
 {
     out.write_all(text)
+}
+
+// Bytes one by one in hex, a space before each, with small or with capital letters.
+#[derive(Clone, Copy)]
+pub enum Hex<'a> {
+    Lower(&'a [u8]),
+    Upper(&'a [u8]),
+}
+
+impl fmt::Display for Hex<'_> {
+    fn fmt<W: fmt::Write>(&self, f: &mut fmt::Formatter<W>) -> fmt::Result {
+        match *self {
+            Hex::Lower(bytes) => {
+                for b in bytes {
+                    write!(f, " {b:02x}")?;
+                }
+            }
+            Hex::Upper(bytes) => {
+                for b in bytes {
+                    write!(f, " {b:02X}")?;
+                }
+            }
+        }
+        Ok(())
+    }
 }
 
 pub fn refused<W: Write>(out: &mut W, why: Refusal) -> io::Result<()> {

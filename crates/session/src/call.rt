@@ -28,6 +28,13 @@ pub struct Bench {
     pub spare: Spare,
 }
 
+// The ports that are read.
+#[derive(Clone, Copy)]
+enum Port {
+    Status,
+    Data,
+}
+
 // The refusal that ended a call of several bytes: the place of the byte, counted from 1, and the word.
 #[derive(Clone, Copy)]
 struct Stopped {
@@ -87,33 +94,31 @@ impl Bench {
 
 impl Bench {
     // Makes a new controller, with no disk in its drive.
-    pub(crate) fn machine(&mut self, rt: &impl Print, setting: usize) -> io::Result<()> {
+    pub(crate) fn machine(&mut self, rt: &impl Print, setting: u8) -> io::Result<()> {
+        answer(rt, host::floppy_new_with(&mut self.controller, setting))
+    }
+
+    pub(crate) fn motor(&mut self, rt: &impl Print, on: bool) -> io::Result<()> {
         answer(
             rt,
-            host::floppy_new_with(&mut self.controller, (setting % 256) as u8),
+            host::floppy_set_motor(&mut self.controller, u8::from(on)),
         )
     }
 
-    pub(crate) fn motor(&mut self, rt: &impl Print, on: usize) -> io::Result<()> {
-        answer(
-            rt,
-            host::floppy_set_motor(&mut self.controller, (on % 256) as u8),
-        )
-    }
-
-    // A read of the data port or of the status.
-    fn read_once(&mut self, dataport: bool) -> u64 {
-        if dataport {
-            let room = buffer::part(&self.transfer, 0, self.lent);
-            return host::floppy_read_cmd(&mut self.controller, room);
+    fn read_once(&mut self, port: Port) -> u64 {
+        match port {
+            Port::Status => host::floppy_read_status(&mut self.controller),
+            Port::Data => {
+                let room = buffer::part(&self.transfer, 0, self.lent);
+                host::floppy_read_cmd(&mut self.controller, room)
+            }
         }
-        host::floppy_read_status(&mut self.controller)
     }
 
     // Reads a port so many times, or until it is refused; answers how many bytes that gave.
-    fn reads(&mut self, dataport: bool, times: usize) -> (usize, Option<Stopped>) {
+    fn reads(&mut self, port: Port, times: usize) -> (usize, Option<Stopped>) {
         for before in 0..times {
-            let word = self.read_once(dataport);
+            let word = self.read_once(port);
             if refusal(word).is_some() {
                 let at = before + 1;
                 return (before, Some(Stopped { at, word }));
@@ -126,7 +131,7 @@ impl Bench {
     }
 
     pub(crate) fn status(&mut self, rt: &impl Print, times: usize) -> io::Result<()> {
-        let (count, stopped) = self.reads(false, times);
+        let (count, stopped) = self.reads(Port::Status, times);
         if 0 < count {
             print!(rt; "status")?;
             if 1 < count {
@@ -141,7 +146,7 @@ impl Bench {
     }
 
     pub(crate) fn read(&mut self, rt: &impl Print, times: usize) -> io::Result<()> {
-        let (count, stopped) = self.reads(true, times);
+        let (count, stopped) = self.reads(Port::Data, times);
         if 0 < count {
             print!(rt; "read")?;
             if ROW < count {

@@ -13,7 +13,7 @@ mod show;
 use call::Bench;
 use input::take_line;
 use line::Line;
-use parse::{Call, Name, parse};
+use parse::{Call, parse};
 use std::io;
 use std::io::{BufRead, BufReader};
 use std::rt::Files;
@@ -28,22 +28,22 @@ fn obey<R: Print + Files + Alloc>(
     call: Call,
     bench: &mut Bench,
 ) -> io::Result<()> {
-    match call.name {
-        Name::Fresh => bench.fresh(rt),
-        Name::Load => bench.load(rt, line),
-        Name::Out => bench.remove(rt),
-        Name::Machine => bench.machine(rt, call.n),
-        Name::Motor => bench.motor(rt, call.n),
-        Name::Status => bench.status(rt, call.n),
-        Name::Write => bench.write(rt, call.n),
-        Name::Read => bench.read(rt, call.n),
-        Name::Transfer => bench.lend(rt, call.n),
-        Name::Geometry => bench.geometry(rt),
-        Name::Sector => bench.sector(rt),
-        Name::Disk => bench.disk(rt),
-        Name::Pause => bench.pause(rt, line),
-        Name::Resume => bench.resume(rt, line),
-        Name::Home => bench.home(rt, line),
+    match call {
+        Call::Fresh => bench.fresh(rt),
+        Call::Load => bench.load(rt, line),
+        Call::Out => bench.remove(rt),
+        Call::Machine(setting) => bench.machine(rt, setting),
+        Call::Motor(on) => bench.motor(rt, on),
+        Call::Status(times) => bench.status(rt, times),
+        Call::Write(count) => bench.write(rt, count),
+        Call::Read(times) => bench.read(rt, times),
+        Call::Transfer(room) => bench.lend(rt, room),
+        Call::Geometry => bench.geometry(rt),
+        Call::Sector => bench.sector(rt),
+        Call::Disk => bench.disk(rt),
+        Call::Pause => bench.pause(rt, line),
+        Call::Resume => bench.resume(rt, line),
+        Call::Home => bench.home(rt, line),
     }
 }
 

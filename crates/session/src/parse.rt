@@ -37,11 +37,24 @@ pub enum Wrong {
     Call(Name, Fault),
 }
 
-// A call comes with one number: how often, how many bytes it names, or what it sets.
+// A call, with what it sets, how often it is made, or how many bytes it names.
 #[derive(Clone, Copy)]
-pub struct Call {
-    pub name: Name,
-    pub n: usize,
+pub enum Call {
+    Fresh,
+    Load,
+    Out,
+    Machine(u8),
+    Motor(bool),
+    Status(usize),
+    Write(usize),
+    Read(usize),
+    Transfer(usize),
+    Geometry,
+    Sector,
+    Disk,
+    Pause,
+    Resume,
+    Home,
 }
 
 // Bytes of one line: those that it names, those that it reads, or those of its file, which may be no longer.
@@ -79,16 +92,16 @@ fn operand_counts(name: Name) -> (usize, usize) {
     }
 }
 
-fn switch(word: &[u8]) -> Option<usize> {
+fn switch(word: &[u8]) -> Option<bool> {
     match word {
-        b"off" => Some(0),
-        b"on" => Some(1),
+        b"off" => Some(false),
+        b"on" => Some(true),
         _ => None,
     }
 }
 
 // Which machine, as the setting that a controller is made with.
-fn machine(word: &[u8]) -> Option<usize> {
+fn machine(word: &[u8]) -> Option<u8> {
     match word {
         b"rust" => Some(0),
         b"datasheet" => Some(1),
@@ -101,19 +114,22 @@ fn number(word: &[u8], least: usize) -> Option<usize> {
     line::number(word).filter(|n| least <= *n)
 }
 
-// A byte, written in hex or as a decimal number.
-fn byte(word: &[u8], in_hex: bool) -> Option<u8> {
-    if in_hex {
-        return line::byte(word);
-    }
+// A byte, written as a decimal number.
+fn decimal(word: &[u8]) -> Option<u8> {
     u8::try_from(line::number(word)?).ok()
 }
 
-// Lays out the bytes that are named by these words, and answers how many they are.
-fn list(operands: &[u8], in_hex: bool, spare: &mut Spare) -> Result<usize, Fault> {
+// Lays out the bytes that are named by these words, as `byte` reads them, and answers how many they are.
+fn list<F: Fn(&[u8]) -> Option<u8>>(
+    operands: &[u8],
+    byte: F,
+    spare: &mut Spare,
+) -> Result<usize, Fault>
+    requires { F.IsAlwaysCallable byte }
+{
     let mut count = 0;
     for (k, word) in Words(operands).enumerate() {
-        let Some(b) = byte(word, in_hex) else {
+        let Some(b) = byte(word) else {
             return Err(Fault::Unfit(k));
         };
         let Some(place) = spare.get_mut(k) else {
@@ -125,19 +141,31 @@ fn list(operands: &[u8], in_hex: bool, spare: &mut Spare) -> Result<usize, Fault
     Ok(count)
 }
 
-// The number of a call whose words are neither too few nor too many.
-fn number_of(name: Name, operands: &[u8], spare: &mut Spare) -> Result<usize, Fault> {
+// The call whose words are neither too few nor too many.
+fn fitted(name: Name, operands: &[u8], spare: &mut Spare) -> Result<Call, Fault> {
     let first = line::word(operands, 0);
-    match name {
-        Name::Machine => machine(first).ok_or(Fault::Unfit(0)),
-        Name::Motor => switch(first).ok_or(Fault::Unfit(0)),
-        Name::Status if first.is_empty() => Ok(1),
-        Name::Status | Name::Read => number(first, 1).ok_or(Fault::Unfit(0)),
-        Name::Transfer => number(first, 0).ok_or(Fault::Unfit(0)),
-        Name::Write => list(operands, true, spare),
-        Name::Sector => list(operands, false, spare),
-        _ => Ok(0),
-    }
+    let call = match name {
+        Name::Fresh => Some(Call::Fresh),
+        Name::Load => Some(Call::Load),
+        Name::Out => Some(Call::Out),
+        Name::Machine => machine(first).map(Call::Machine),
+        Name::Motor => switch(first).map(Call::Motor),
+        Name::Status if first.is_empty() => Some(Call::Status(1)),
+        Name::Status => number(first, 1).map(Call::Status),
+        Name::Write => Some(Call::Write(list(operands, line::byte, spare)?)),
+        Name::Read => number(first, 1).map(Call::Read),
+        Name::Transfer => number(first, 0).map(Call::Transfer),
+        Name::Geometry => Some(Call::Geometry),
+        Name::Sector => {
+            list(operands, decimal, spare)?;
+            Some(Call::Sector)
+        }
+        Name::Disk => Some(Call::Disk),
+        Name::Pause => Some(Call::Pause),
+        Name::Resume => Some(Call::Resume),
+        Name::Home => Some(Call::Home),
+    };
+    call.ok_or(Fault::Unfit(0))
 }
 
 // The call with this name.
@@ -150,8 +178,7 @@ fn call_of(name: Name, operands: &[u8], spare: &mut Spare) -> Result<Call, Fault
     if most < count {
         return Err(Fault::Many);
     }
-    let n = number_of(name, operands, spare)?;
-    Ok(Call { name, n })
+    fitted(name, operands, spare)
 }
 
 // Reads a line; nothing where it is blank or a comment.

@@ -1,30 +1,18 @@
 // Output: each text goes to standard output at once, so that an operator sees every answer as it comes.
-use std::{fmt, io};
+use replay::Hex;
+use std::io;
 
 // How many bytes of hex stand in a row.
 pub const ROW: usize = 16;
 
-// Bytes in hex, a space before each.
-#[derive(Clone, Copy)]
-struct Hex<'a>(&'a [u8]);
-
-impl fmt::Display for Hex<'_> {
-    fn fmt<W: fmt::Write>(&self, f: &mut fmt::Formatter<W>) -> fmt::Result {
-        for b in self.0 {
-            write!(f, " {b:02X}")?;
-        }
-        Ok(())
-    }
-}
-
 // Bytes in hex: on the line that has begun where they are few, else in rows, each behind its offset.
 pub(crate) fn rows(rt: &impl Print, bytes: &[u8]) -> io::Result<()> {
     if bytes.len() <= ROW {
-        return println!(rt; "{}", Hex(bytes));
+        return println!(rt; "{}", Hex::Upper(bytes));
     }
     println!(rt)?;
     for (k, row) in bytes.chunks(ROW).enumerate() {
-        println!(rt; "{:5}:{}", ROW * k, Hex(row))?;
+        println!(rt; "{:5}:{}", ROW * k, Hex::Upper(row))?;
     }
     Ok(())
 }

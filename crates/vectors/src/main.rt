@@ -11,9 +11,6 @@ use replay::{Amount, Fault};
 use std::io;
 use std::io::{BufReader, BufWriter, Read, Write};
 
-// More records than any list has.
-const RECORDS: u32 = 65536;
-
 // No disk goes home as more bytes: 204 headers and the disk block, and as many data as there can be, padded.
 const HOME: usize = 1153024;
 
@@ -180,15 +177,10 @@ fn replay<R: Read, W: Write>(input: &mut R, out: &mut W, bench: &mut Bench) -> R
     Ok(true)
 }
 
-// Replays every record.
+// Shows a fresh disk, and replays every record.
 fn run<R: Read, W: Write>(input: &mut R, out: &mut W, bench: &mut Bench) -> Result<(), Fault> {
     show_fresh(out, &mut bench.table, &mut bench.bytes)?;
-    for _ in 0..RECORDS {
-        if !replay(input, out, bench)? {
-            return Ok(());
-        }
-    }
-    Ok(())
+    replay::run(|| replay(input, out, bench))
 }
 
 fn main(rt: HostRuntime) -> io::Result<()> {

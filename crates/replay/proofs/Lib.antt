@@ -1,0 +1,2 @@
+-- Laws of the specs that a proof cites.
+mod Runs
