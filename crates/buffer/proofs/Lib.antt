@@ -2,3 +2,4 @@
 pub mod Overs
 pub mod Sames
 mod Shifts
+mod Loops

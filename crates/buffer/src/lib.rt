@@ -9,12 +9,15 @@ ghost use Rattle.buffer.specs.Same.{same_bytes};
 
 pub use moves::{exchange, shift};
 
-// Lays `src` over `dst` from index `at`.
+// Lays `src` over `dst` from index `at`. Byte by byte: most of what is laid is short, and with `copy_from_slice` the library for C
+// would ask for `memmove` from outside.
 pub fn copy_in(dst: &mut [u8], at: usize, src: &[u8])
     requires { at + length src.now ≤ length dst.old }
     ensures { dst.new ≡ over dst.old at src.now }
 {
-    dst[at..at + src.len()].copy_from_slice(src);
+    for i in 0..src.len() {
+        dst[at + i] = src[i];
+    }
 }
 
 // Writes `value` at `count` places from index `at`.
@@ -29,7 +32,15 @@ pub fn fill(dst: &mut [u8], at: usize, count: usize, value: u8)
 pub fn same(a: &[u8], b: &[u8]) -> bool
     ensures { result ≡ same_bytes a.now b.now }
 {
-    a == b
+    if a.len() != b.len() {
+        return false;
+    }
+    // All of them, with no early exit (docs/DECISIONS.md, 15).
+    let mut alike = true;
+    for i in 0..a.len() {
+        alike = alike & (a[i] == b[i]);
+    }
+    alike
 }
 
 // Everything from `from` on, which is nothing where the slice ends first.

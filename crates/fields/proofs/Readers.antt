@@ -9,8 +9,6 @@ use lib.Dec.{eqb, leb}
 use borrow.Author.Tests.{lt-leb, le-leb, leb-true, leb-false}
 use Rattle.fields.specs.Bytes.{byte_at, number_at, text_at, read_number, read_string}
 use Rattle.buffer.specs.Same.{same_bytes}
-use Rattle.buffer.proofs.Sames.{same_pointwise}
-use Rattle.std.specs.Cmp.Lexicographic.{pointwise}
 use Rattle.fields.specs.declared.refusal.Refusal.TheVariants.{ShortImage}
 use Rattle.std.specs.Prelude.{Result, Ok, Err, is_ok, IsOk, IfErr, ◌↔◌}
 use Rattle.std.proofs.lemmas.Result.{IfErr-at_err}
@@ -65,12 +63,12 @@ module _ (t b : List ℕ) (at : ℕ) (r : Result (Unit {0}) Refusal) (fits : IsO
       let l : length b < at + length t = short_reach (length t) b at r fits why e in
       simp (lt-leb _ _ l) (ap Err (IfErr-at_err (λ w. w ≡ ShortImage) e s))
 
-  pub string-whole : (u : Unit {0}) (p : List ℕ) (q : Bool) → r ≡ Ok u → p ≡ take (length t) (drop at b) → q ≡ pointwise eqb p t
+  pub string-whole : (u : Unit {0}) (p : List ℕ) (q : Bool) → r ≡ Ok u → p ≡ take (length t) (drop at b) → q ≡ same_bytes p t
       → Ok q ≡ read_string t b at
   unfolding read_string text_at
   string-whole u p q e ep eq =
       let l : at + length t ≤ length b = fits.0 (ap is_ok e) in
-      simp (le-leb _ _ l) (ap Ok (eq ∙ same_pointwise p t ∙ ap (λ (x : List ℕ). same_bytes x t) ep))
+      simp (le-leb _ _ l) (ap Ok (eq ∙ ap (λ (x : List ℕ). same_bytes x t) ep))
 
 -- what each answer of a compare says
 abbrev pub Told : List ℕ → List ℕ → ℕ → Result Bool Refusal → Type 0

@@ -51,7 +51,7 @@ pub fn read_u8(s: &[u8], at: usize) -> Result<u8, Refusal>
     ensures { result ≡ read_number 1 s.now at }
 {
     reach(s, at, 1)?;
-    Ok(s[at])
+    Ok(byte(s, at) as u8)
 }
 
 pub fn read_u16(s: &[u8], at: usize) -> Result<u16, Refusal>
@@ -75,5 +75,6 @@ pub fn read_string(s: &[u8], at: usize, text: &[u8]) -> Result<bool, Refusal>
     ensures { result ≡ read_string text.now s.now at }
 {
     reach(s, at, text.len())?;
-    Ok(buffer::part(s, at, text.len()) == text)
+    let here = buffer::part(s, at, text.len());
+    Ok(buffer::same(here, text))
 }

@@ -34,13 +34,6 @@ laid-parts l l₁ l₂ l₃ x y z r p q s e f g =
     let v : l₂ ≡ over l 0 (a ++ b) = f ∙ (λ i. over (u i) 17 (q i)) ∙ over-over l 0 a b 17 refl (omega arith) in
     g ∙ (λ i. over (v i) 28 (s i)) ∙ over-over l 0 (a ++ b) (state_for r []) 28 refl (omega arith) ∙ laid-over (a ++ b ++ state_for r []) l r refl
 
--- so many bytes from a place on, one by one
-pub part-is : (n k : ℕ) (x : List ℕ) → k + n ≤ length x → take n (drop k x) ≡ part_for n x k []
-part-is zero k x h = refl
-part-is (suc n) k x h =
-    let e : k + 1 ≡ suc k = omega arith in
-    rw (drop-cons x k 0 (omega (arith, h)), e) (ap (λ (z : List ℕ). byte_at x k ∷ z) (part-is n (suc k) x (omega (arith, h))))
-
 -- ---- bytes that a controller has, and others
 
 pub formed-long : (l : List ℕ) → formed l ≡ true → length l ≡ controller_length

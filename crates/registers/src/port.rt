@@ -107,31 +107,28 @@ impl Regs {
             .answered(shown)
     }
 
+    // Changed in place, and the reply taken out for its byte: every port read goes through this, and with the registers copied, or
+    // asked for a place that is not known, it takes a fifth more (docs/SPEED.md).
     #[tactic(auto, unfolding(crate::specs::Calls::data_read, crate::specs::Calls::byte_from, crate::specs::Calls::regs_read))]
-    pub fn read_cmd(self, transfer: &[u8]) -> Answered<u8>
+    pub fn read_cmd(mut self, transfer: &[u8]) -> Answered<u8>
         ensures { result ≡ data_read self transfer.now }
     {
         if self.impossible_in(transfer) {
             return self.refused(Refusal::BadController);
         }
-        let r = Regs { lost: 0, ..self };
-        if r.from < r.until {
-            let b = transfer[r.from as usize];
-            return Regs {
-                from: r.from + 1,
-                ..r
-            }
-            .answered(b);
+        self.lost = 0;
+        if self.from < self.until {
+            let b = transfer[self.from as usize];
+            self.from += 1;
+            return self.answered(b);
         }
-        if r.place < r.fill {
-            let b = r.reply[r.place as usize];
-            return Regs {
-                place: r.place + 1,
-                ..r
-            }
-            .answered(b);
+        if self.place < self.fill {
+            let reply = self.reply;
+            let b = reply[self.place as usize];
+            self.place += 1;
+            return self.answered(b);
         }
-        r.answered(0)
+        self.answered(0)
     }
 
     #[tactic(auto, unfolding(crate::specs::Calls::motor_set))]

@@ -224,8 +224,13 @@ impl Regs {
     fn wrong_write(self) -> bool
         ensures { result ≡ wrong_write (setting_of self.setting) self.write }
     {
-        let p = self.write;
-        p.on && wrong_work(self.setting, p.c1, p.goal(), p.taken as usize)
+        self.write.on
+            && wrong_work(
+                self.setting,
+                self.write.c1,
+                self.write.goal(),
+                self.write.taken as usize,
+            )
     }
 
     // Numbers that no controller has.
@@ -236,7 +241,10 @@ impl Regs {
         if self.fill < self.place || self.until < self.from || 7 < self.fill {
             return true;
         }
-        self.oversent() || 2 < self.lost || self.wrong_write()
+        if self.oversent() || 2 < self.lost {
+            return true;
+        }
+        self.wrong_write()
     }
 
     // An answer, with these registers.

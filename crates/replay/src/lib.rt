@@ -1,13 +1,13 @@
 // How the programs that replay a list take its records and print their answers. docs/ORACLE.md has the forms.
 #![tactic(auto)]
 
-ghost use Rattle.std.specs.Prelude.{◌≡◌, ◌+◌, ◌*◌, ◌<◌, ◌≤◌, length, drop, IfOk, IsOk, OnOk};
+ghost use Rattle.std.specs.Prelude.{◌≡◌, ◌+◌, ◌*◌, ◌<◌, ◌≤◌, ◌%◌, length, drop, IfOk, IfErr, IsOk, OnOk};
 ghost use Rattle.std.specs.Io.KnownBytes.{Appends};
 ghost use Rattle.fields.specs.Bytes.{byte_at};
 ghost use Rattle.fields.specs.Capacities.{most_data};
 ghost use Rattle.store.specs.Spots.{tally_of};
 ghost use Rattle.store.specs.Store.{table_length};
-ghost use Rattle.replay.specs.Answers.{check_from, check_with, held_in, number_in, Fits, ChunkFits, RecordFits, Runs};
+ghost use Rattle.replay.specs.Answers.{check_from, check_with, held_in, number_in, hex_digit, Fails, Fits, ChunkFits, RecordFits, Runs};
 
 use fields::{Refusal, SectorId};
 use std::io::{ErrorKind, Read, Write};
@@ -16,6 +16,9 @@ use tracks::Row;
 
 // More records than any list has.
 const RECORDS: u32 = 65536;
+
+// So many bytes in hex are laid before they are written.
+const HEX: usize = 16;
 
 // How much a disk holds.
 #[derive(Clone, Copy, Default)]
@@ -62,7 +65,8 @@ pub fn run<F: FnMut() -> Result<bool, Fault>>(mut replay: F) -> Result<(), Fault
 
 // How a replay ends: a list that is broken off is told of, and what was printed stands.
 pub fn ended(rt: &impl Eprint, replayed: Result<(), Fault>, broken: &str) -> io::Result<()>
-    ensures { OnOk replayed (IsOk result) }
+    ensures well { OnOk replayed (IsOk result) }
+    ensures ill { IfErr replayed (λ fault. Fails fault result) }
 {
     match replayed {
         Ok(()) => Ok(()),
@@ -77,6 +81,17 @@ pub fn put<W: Write>(out: &mut W, text: &[u8]) -> io::Result<()>
     out.write_all(text)
 }
 
+// A digit in hex, of which ten and more are letters.
+pub fn hex_digit(n: u8, capital: bool) -> u8
+    ensures { result ≡ hex_digit capital (n % 16) }
+{
+    let d = n % 16;
+    if d < 10 {
+        return b'0' + d;
+    }
+    if capital { b'7' + d } else { b'W' + d }
+}
+
 // Bytes one by one in hex, a space before each, with small or with capital letters.
 #[derive(Clone, Copy)]
 pub enum Hex<'a> {
@@ -84,19 +99,25 @@ pub enum Hex<'a> {
     Upper(&'a [u8]),
 }
 
+// Lays so many bytes in hex over blanks.
+fn lay_hex(bytes: &[u8], capital: bool, text: &mut [u8; 3 * HEX]) {
+    for k in 0..bytes.len().min(HEX) {
+        text[3 * k + 1] = hex_digit(bytes[k] / 16, capital);
+        text[3 * k + 2] = hex_digit(bytes[k], capital);
+    }
+}
+
 impl fmt::Display for Hex<'_> {
     fn fmt<W: fmt::Write>(&self, f: &mut fmt::Formatter<W>) -> fmt::Result {
-        match *self {
-            Hex::Lower(bytes) => {
-                for b in bytes {
-                    write!(f, " {b:02x}")?;
-                }
-            }
-            Hex::Upper(bytes) => {
-                for b in bytes {
-                    write!(f, " {b:02X}")?;
-                }
-            }
+        let (bytes, capital) = match *self {
+            Hex::Lower(bytes) => (bytes, false),
+            Hex::Upper(bytes) => (bytes, true),
+        };
+        for some in bytes.chunks(HEX) {
+            let mut text = [b' '; 3 * HEX];
+            lay_hex(some, capital, &mut text);
+            let laid = buffer::part(&text, 0, 3 * some.len());
+            f.write_str(str::from_utf8(laid).unwrap_or(""))?;
         }
         Ok(())
     }

@@ -200,7 +200,7 @@ impl Bench {
 // ---- files that are written
 
 // Whether what a call wrote is kept in a file now; where it was refused or the file cannot be written, says so.
-fn kept<R: Print + Files + Alloc>(
+fn kept<R: Print + Files>(
     rt: &R,
     line: Line<'_>,
     written: u64,
@@ -221,7 +221,7 @@ fn kept<R: Print + Files + Alloc>(
 
 impl Bench {
     // Writes the disk that is in as an extended image.
-    pub(crate) fn home<R: Print + Files + Alloc>(
+    pub(crate) fn home<R: Print + Files>(
         &mut self,
         rt: &R,
         line: Line<'_>,
@@ -236,7 +236,7 @@ impl Bench {
         Ok(())
     }
 
-    pub(crate) fn pause<R: Print + Files + Alloc>(
+    pub(crate) fn pause<R: Print + Files>(
         &mut self,
         rt: &R,
         line: Line<'_>,

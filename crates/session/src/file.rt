@@ -12,6 +12,9 @@ use std::{fs, io};
 // So many names beside a file's own are tried, while each is taken.
 const NAMES: u32 = 1000000;
 
+// No name that the system takes is longer.
+const LONGEST: usize = 4095;
+
 // Why a file's bytes were not taken.
 #[derive(Clone, Copy)]
 pub enum Untaken {
@@ -108,13 +111,22 @@ fn settle<R: Files>(
     settled
 }
 
+// Lays the name of a file beside the one that has a name; the system takes no name that is longer than the room.
+fn beside<'a>(name: &str, number: u32, room: &'a mut [u8; LONGEST]) -> io::Result<&'a str> {
+    let length = name.len() + 7;
+    let mut rest: &mut [u8] = room;
+    write!(rest, "{name}.{number:06}")?;
+    name_of(buffer::part(room, 0, length))
+}
+
 // Puts a file with these bytes in the place of the one that has this name, or of none. Where it fails, that one is as it was.
-pub(crate) fn replace<R: Files + Alloc>(rt: &R, path: &[u8], bytes: &[u8]) -> io::Result<()> {
+pub(crate) fn replace<R: Files>(rt: &R, path: &[u8], bytes: &[u8]) -> io::Result<()> {
     let name = name_of(path)?;
+    let mut room = [0; LONGEST];
     for number in 0..NAMES {
-        let beside = format!(in rt.alloc(); "{name}.{number:06}")?;
-        match create_new(rt, beside.as_str()) {
-            Ok(file) => return settle(rt, file, beside.as_str(), name, bytes),
+        let beside = beside(name, number, &mut room)?;
+        match create_new(rt, beside) {
+            Ok(file) => return settle(rt, file, beside, name, bytes),
             Err(why) if why.kind() == io::ErrorKind::AlreadyExists => {}
             Err(why) => return Err(why),
         }

@@ -11,18 +11,18 @@ mod print;
 mod show;
 
 use call::Bench;
-use input::take_line;
+use input::Script;
 use line::Line;
 use parse::{Call, parse};
 use std::io;
-use std::io::{BufRead, BufReader};
+use std::io::Read;
 use std::rt::Files;
 
 // No line is longer.
 const LONGEST: usize = 4096;
 
 // Makes a call.
-fn obey<R: Print + Files + Alloc>(
+fn obey<R: Print + Files>(
     rt: &R,
     line: Line<'_>,
     call: Call,
@@ -48,7 +48,7 @@ fn obey<R: Print + Files + Alloc>(
 }
 
 // Runs a line.
-fn run_line<R: Print + Files + Alloc>(rt: &R, line: Line<'_>, bench: &mut Bench) -> io::Result<()> {
+fn run_line<R: Print + Files>(rt: &R, line: Line<'_>, bench: &mut Bench) -> io::Result<()> {
     if LONGEST < line.text.len() {
         return message::too_long(rt, line.number);
     }
@@ -60,14 +60,14 @@ fn run_line<R: Print + Files + Alloc>(rt: &R, line: Line<'_>, bench: &mut Bench)
 }
 
 // Runs every line.
-fn run<R: Print + Files + Alloc>(
+fn run<R: Print + Files>(
     rt: &R,
-    input: &mut impl BufRead,
+    input: &mut Script<impl Read + Drop>,
     bench: &mut Bench,
 ) -> io::Result<()> {
     let mut space = [0; 4097];
     for number in 1..=u64::MAX {
-        let Some(text) = take_line(input, &mut space)? else {
+        let Some(text) = input.take_line(&mut space)? else {
             return Ok(());
         };
         run_line(rt, Line { number, text }, bench)?;
@@ -76,7 +76,7 @@ fn run<R: Print + Files + Alloc>(
 }
 
 fn main(rt: HostRuntime) -> io::Result<()> {
-    let mut input = BufReader::new(rt.alloc(), rt.stdin())?;
+    let mut input = Script::new(rt.reader());
     let mut bench = Bench {
         controller: [0; layout::LENGTH],
         table: [0; store::TABLE],

@@ -41,11 +41,11 @@ pub(crate) fn named(rt: &impl Print, word: u64) -> io::Result<()> {
 
 // That a call was good, and the sector that it names, where it names one.
 fn good(rt: &impl Print, word: u64) -> io::Result<()> {
-    print!(rt; "ok")?;
-    if place(word) != 0 {
-        print!(rt; ", ")?;
-        named(rt, word)?;
+    if place(word) == 0 {
+        return println!(rt; "ok");
     }
+    print!(rt; "ok, ")?;
+    named(rt, word)?;
     println!(rt)
 }
 

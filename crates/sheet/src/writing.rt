@@ -45,17 +45,18 @@ fn opening(r: Regs, rest: usize) -> [u8; 18]
     ]
 }
 
-// Lays a box at a place, its length in so many bytes first, and answers the place behind it.
-fn put(sheet: &mut [u8], at: usize, width: usize, x: &[u8]) -> usize
-    requires width_bound { width ≤ 4 }
-    requires room { at + width + length x.now ≤ length sheet.old }
-    ensures { (sheet.new ≡ over sheet.old at (box_for width x.now []))
-        × (result ≡ at + width + length x.now) }
+// Lays a box at a place, its length in so many bytes first, and answers the place behind it. A constant width makes the copy
+// of the length a store.
+fn put<const WIDTH: usize>(sheet: &mut [u8], at: usize, x: &[u8]) -> usize
+    requires width_bound { WIDTH ≤ 4 }
+    requires room { at + WIDTH + length x.now ≤ length sheet.old }
+    ensures { (sheet.new ≡ over sheet.old at (box_for WIDTH x.now []))
+        × (result ≡ at + WIDTH + length x.now) }
 {
     let n = x.len().to_be_bytes();
-    buffer::copy_in(sheet, at, &n[8 - width..]);
-    buffer::copy_in(sheet, at + width, x);
-    at + width + x.len()
+    buffer::copy_in(sheet, at, &n[8 - WIDTH..]);
+    buffer::copy_in(sheet, at + WIDTH, x);
+    at + WIDTH + x.len()
 }
 
 // Lays the box of a write in progress, c1, its four numbers and the bytes so far, if it is to stand here, else an empty one, and answers the place
@@ -67,7 +68,7 @@ fn put_work(sheet: &mut [u8], at: usize, here: bool, p: Pending, held: &[u8]) ->
         × (result ≡ at + 2 + length (work_for here p held.now)) }
 {
     if !here {
-        return put(sheet, at, 2, &[]);
+        return put::<2>(sheet, at, &[]);
     }
     let taken = p.taken as usize;
     let n = 5 + taken;
@@ -97,7 +98,7 @@ fn lay_works(r: Regs, held: &[u8], at: usize, sheet: &mut [u8])
     let p = r.write;
     // `&` has no branch: behind `&&` each call's room would have to be shown for two ways that lead there.
     let machine = put_work(sheet, at, p.on & !p.track, p, held);
-    let format = put(sheet, machine, 2, &[r.setting % 2]);
+    let format = put::<2>(sheet, machine, &[r.setting % 2]);
     put_work(sheet, format, p.on & p.track, p, held);
 }
 
@@ -130,8 +131,8 @@ fn lay_first(r: Regs, rest: usize, sheet: &mut [u8]) -> usize
         × (result ≡ 22 + r.count + (r.fill - r.place)) }
 {
     buffer::copy_in(sheet, 0, &opening(r, rest));
-    let next = put(sheet, 18, 2, &r.command[..r.count as usize]);
-    put(sheet, next, 2, &r.reply[r.place as usize..r.fill as usize])
+    let next = put::<2>(sheet, 18, &r.command[..r.count as usize]);
+    put::<2>(sheet, next, &r.reply[r.place as usize..r.fill as usize])
 }
 
 // Lays the unread data, the lost count, the write, the machine and the Format.
@@ -143,8 +144,8 @@ fn lay_rest(r: Regs, held: &[u8], transfer: &[u8], at: usize, sheet: &mut [u8])
         (box_for 2 (r.lost ∷ []) (box_for 2 (write_box (writing_if r.write.on r.write held.now))
         (box_for 2 (r.setting % 2 ∷ []) (box_for 2 (format_box (writing_if r.write.on r.write held.now)) []))))) }
 {
-    let next = put(sheet, at, 4, &transfer[r.from as usize..r.until as usize]);
-    let last = put(sheet, next, 2, &[r.lost]);
+    let next = put::<4>(sheet, at, &transfer[r.from as usize..r.until as usize]);
+    let last = put::<2>(sheet, next, &[r.lost]);
     lay_works(r, held, last, sheet);
 }
 

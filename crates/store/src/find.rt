@@ -43,12 +43,13 @@ pub struct Place {
     pub end: usize,
 }
 
-// The rows of a track: where they start in the table, where their bytes start, and how many there are. They lie in the table.
+// The rows of a track: where they start in the table, how many there are, and where their bytes start. They lie in the table.
+// Where they and their bytes start stand apart, so that a search keeps either in a register of its own (docs/SPEED.md).
 #[derive(Clone, Copy)]
 pub struct TrackRows {
     pub start: usize,
-    pub first: usize,
     pub count: usize,
+    pub first: usize,
     ghost inside: { start + 8 * count ≤ table_length },
     ghost few: { count < 256 },
 }
@@ -66,7 +67,11 @@ pub fn row_here(table: &[u8], at: usize, id: SectorId) -> bool
     requires { at < 65536 }
     ensures { result ≡ row_here table.now id at }
 {
-    tracks::id_at(table, at) == id
+    // Byte by byte: most rows that are passed over differ in one of the first, and no more of them is read.
+    fields::byte(table, at) == id.c as usize
+        && fields::byte(table, at + 1) == id.h as usize
+        && fields::byte(table, at + 2) == id.r as usize
+        && fields::byte(table, at + 3) == id.n as usize
 }
 
 // The first track with this side and cylinder.

@@ -5,8 +5,8 @@ pub returns : goal.returns
 unfolding regs_at
 returns c =
     simp (
-      c.bytes_at.ensures,
-      c.bytes_at-2.ensures,
+      c.command_at.ensures,
+      c.reply_at.ensures,
       c.write_at.ensures,
       c.drive_at.ensures,
       c.long_at.ensures,
