@@ -21,6 +21,8 @@ pub struct Extent {
 
 // Searches the numbers from the ID's own to `last` among the rows of a track, up to the first that has no sector.
 // A number that was found goes on at the label; one without a sector ends both loops.
+// It and `gather` stay calls of their own: compiled into `read_rows` their loops keep numbers on the stack (docs/SPEED.md).
+#[inline(never)]
 fn measure(table: &[u8], rows: TrackRows, id: SectorId, last: u8) -> Extent
     requires { id.r ≤ last }
     ensures { result ≡ extent_from table.now id rows.start rows.count id.r (suc (last - id.r)) }
@@ -51,6 +53,7 @@ fn copy_sector(room: &mut [u8], content: &[u8])
 }
 
 // Lays `sectors` sectors, numbered from the ID's own on, one after another into the transfer buffer.
+#[inline(never)]
 fn gather(
     table: &[u8],
     bytes: &[u8],

@@ -1,20 +1,18 @@
 -- A controller as bytes: which numbers stand where, and which bytes a controller has.
 use mathlib.Core.Path.{◌≡◌, refl, ap, ◌∙◌}
-use Prim.Native.Nat.{ℕ, zero, suc, ◌+◌, ◌≤◌}
+use Prim.Native.Nat.{ℕ}
 use native.Mathlib.Omega.{arith}
 use mathlib.Core.Bool.{true}
-use mathlib.Core.List.{List, [], ◌∷◌, ◌++◌}
-use lib.ListN.{length, take, drop}
-use lib.Seq.{drop-cons}
+use mathlib.Core.List.{List, [], ◌++◌}
+use lib.ListN.{length, drop}
 use borrow.Author.Tests.{eqb-true}
 use Rattle.buffer.specs.Over.{over}
 use Rattle.buffer.proofs.Overs.{over-over, over-front}
-use Rattle.fields.specs.Bytes.{byte_at}
 use Rattle.fields.proofs.Tests.{and-fst, need-good}
 use Rattle.fields.specs.declared.refusal.Refusal.TheVariants.{BadController}
 use Rattle.registers.specs.declared.regs.Regs.{Regs}
 use Rattle.std.specs.Prelude.{Ok}
-use Rattle.layout.specs.Layout.{controller_length, part_for, command_for, reading_for, state_for, numbers_for, held_at, formed, regs_in}
+use Rattle.layout.specs.Layout.{controller_length, command_for, reading_for, state_for, numbers_for, held_at, formed, regs_in}
 
 -- ---- bytes as registers
 

@@ -200,12 +200,7 @@ impl Bench {
 // ---- files that are written
 
 // Whether what a call wrote is kept in a file now; where it was refused or the file cannot be written, says so.
-fn kept<R: Print + Files>(
-    rt: &R,
-    line: Line<'_>,
-    written: u64,
-    bytes: &[u8],
-) -> io::Result<bool> {
+fn kept<R: Print + Files>(rt: &R, line: Line<'_>, written: u64, bytes: &[u8]) -> io::Result<bool> {
     if refusal(written).is_some() {
         answer(rt, written)?;
         return Ok(false);
@@ -221,11 +216,7 @@ fn kept<R: Print + Files>(
 
 impl Bench {
     // Writes the disk that is in as an extended image.
-    pub(crate) fn home<R: Print + Files>(
-        &mut self,
-        rt: &R,
-        line: Line<'_>,
-    ) -> io::Result<()> {
+    pub(crate) fn home<R: Print + Files>(&mut self, rt: &R, line: Line<'_>) -> io::Result<()> {
         if self.lacks_disk(rt)? {
             return Ok(());
         }
@@ -236,11 +227,7 @@ impl Bench {
         Ok(())
     }
 
-    pub(crate) fn pause<R: Print + Files>(
-        &mut self,
-        rt: &R,
-        line: Line<'_>,
-    ) -> io::Result<()> {
+    pub(crate) fn pause<R: Print + Files>(&mut self, rt: &R, line: Line<'_>) -> io::Result<()> {
         let room = buffer::part(&self.transfer, 0, self.lent);
         let written = host::floppy_write_sheet(&self.controller, room, &mut self.spare);
         if kept(rt, line, written, &self.spare)? {

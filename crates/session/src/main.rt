@@ -22,12 +22,7 @@ use std::rt::Files;
 const LONGEST: usize = 4096;
 
 // Makes a call.
-fn obey<R: Print + Files>(
-    rt: &R,
-    line: Line<'_>,
-    call: Call,
-    bench: &mut Bench,
-) -> io::Result<()> {
+fn obey<R: Print + Files>(rt: &R, line: Line<'_>, call: Call, bench: &mut Bench) -> io::Result<()> {
     match call {
         Call::Fresh => bench.fresh(rt),
         Call::Load => bench.load(rt, line),
