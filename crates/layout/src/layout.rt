@@ -70,7 +70,7 @@ pub fn formed(c: &[u8]) -> bool
 }
 
 // The parts of the registers that are in these bytes. Command and reply are taken byte by byte, each with its length: as one function
-// over a length they are laid apart from their neighbours, and the calls that ask one number take a third longer (docs/SPEED.md).
+// over a length they are laid apart from their neighbours, at the price of up to a fifth more instructions a call (docs/SPEED.md).
 fn command_at(c: &[u8]) -> [u8; 9]
     requires { length c.now ≡ controller_length }
     ensures { result ≡ part_for 9 c.now 0 [] }

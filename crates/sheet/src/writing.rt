@@ -45,8 +45,8 @@ fn opening(r: Regs, rest: usize) -> [u8; 18]
     ]
 }
 
-// Lays a box at a place, its length in so many bytes first, and answers the place behind it. A constant width makes the copy
-// of the length a store.
+// Lays a box at a place, its length in so many bytes first, and answers the place behind it. The width is a constant, as it is
+// where a box is laid: 2, or 4 for the unread data.
 fn put<const WIDTH: usize>(sheet: &mut [u8], at: usize, x: &[u8]) -> usize
     requires width_bound { WIDTH ≤ 4 }
     requires room { at + WIDTH + length x.now ≤ length sheet.old }
