@@ -132,12 +132,11 @@ impl Bench {
 
     pub(crate) fn status(&mut self, rt: &impl Print, times: usize) -> io::Result<()> {
         let (count, stopped) = self.reads(Port::Status, times);
-        if 0 < count {
-            print!(rt; "status")?;
-            if 1 < count {
-                print!(rt; " {count} times:")?;
-            }
-            rows(rt, buffer::part(&self.spare, 0, count))?;
+        let shown = buffer::part(&self.spare, 0, count);
+        match count {
+            0 => {}
+            1 => rows(rt, "status", shown)?,
+            _ => rows(rt, format_args!("status {count} times:"), shown)?,
         }
         match stopped {
             Some(stopped) => refused(rt, stopped, times),
@@ -147,13 +146,11 @@ impl Bench {
 
     pub(crate) fn read(&mut self, rt: &impl Print, times: usize) -> io::Result<()> {
         let (count, stopped) = self.reads(Port::Data, times);
-        if 0 < count {
-            print!(rt; "read")?;
-            if ROW < count {
-                print!(rt; " {count} bytes")?;
-            }
-            print!(rt; ":")?;
-            rows(rt, buffer::part(&self.spare, 0, count))?;
+        let shown = buffer::part(&self.spare, 0, count);
+        match count {
+            0 => {}
+            1..=ROW => rows(rt, "read:", shown)?,
+            _ => rows(rt, format_args!("read {count} bytes:"), shown)?,
         }
         match stopped {
             Some(stopped) => refused(rt, stopped, times),
@@ -291,8 +288,8 @@ impl Bench {
     fn show_sector(&self, rt: &impl Print, found: u64) -> io::Result<()> {
         let count = (found % 65536) as usize;
         named(rt, found)?;
-        print!(rt; ", {count} bytes:")?;
-        rows(rt, buffer::part(&self.content, upper(found), count))
+        let content = buffer::part(&self.content, upper(found), count);
+        rows(rt, format_args!(", {count} bytes:"), content)
     }
 
     // The sector whose address stands in the first six bytes of the line's: side, cylinder, c, h, r and n.

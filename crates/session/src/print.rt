@@ -1,16 +1,20 @@
 // Output: each text goes to standard output at once, so that an operator sees every answer as it comes.
 use replay::Hex;
-use std::io;
+use std::{fmt, io};
 
 // How many bytes of hex stand in a row.
 pub const ROW: usize = 16;
 
-// Bytes in hex: on the line that has begun where they are few, else in rows, each behind its offset.
-pub(crate) fn rows(rt: &impl Print, bytes: &[u8]) -> io::Result<()> {
+// Bytes in hex behind what they are: on its line where they are few, else in rows under it, each behind its offset.
+pub(crate) fn rows(
+    rt: &impl Print,
+    what: impl fmt::Display + Drop,
+    bytes: &[u8],
+) -> io::Result<()> {
     if bytes.len() <= ROW {
-        return println!(rt; "{}", Hex::Upper(bytes));
+        return println!(rt; "{what}{}", Hex::Upper(bytes));
     }
-    println!(rt)?;
+    println!(rt; "{what}")?;
     for (k, row) in bytes.chunks(ROW).enumerate() {
         println!(rt; "{:5}:{}", ROW * k, Hex::Upper(row))?;
     }
